@@ -1,0 +1,109 @@
+-- The rules of one client and of the administrator. Assumes nothing.
+use Prim.Native.Nat.{ℕ, _+_}
+use mathlib.Core.Bool.{Bool, true, false, not, _&&_, _||_}
+use mathlib.Core.Option.{Option, none, some}
+use lib.Dec.{ltb, leb, eqb}
+use Rattle.protocol.specs.Types.{MessageNumber, Entry, View, Phase, Idle, Reading, Writing, Client, Ending, Settled, EndSent, Administrator, Begun, BeginRefused, Began, Taken, Open, Closed, Closing, CloseRefused, WritesNext, Completed, Called, CallRefused, Calling}
+use Rattle.protocol.specs.Tools.{if, Result, refused, done, guard}
+use Rattle.protocol.specs.Sizes.{views, lastCount, sized, readSize, writeSize}
+use Rattle.protocol.specs.Entries.{entry, empty, countOf}
+
+-- "kind u8 (0 none yet, 1 write, 2 read)"
+abbrev pub NONE : ℕ
+NONE = 0
+
+abbrev pub WRITES : ℕ
+WRITES = 1
+
+abbrev pub READS : ℕ
+READS = 2
+
+abbrev pub number : ℕ → MessageNumber
+number n = record { 0 = n }
+
+-- "A phase is idle, reading or writing"
+abbrev pub isIdle : Phase → Bool
+isIdle Idle = true
+isIdle (Reading r) = false
+isIdle (Writing r) = false
+
+-- "an open phase carries its request's number"; 0 when idle
+abbrev pub requestOf : Phase → ℕ
+requestOf Idle = 0
+requestOf (Reading r) = r .0
+requestOf (Writing r) = r .0
+
+-- "An operation has a READ phase, then a WRITE phase.": the client with its READ, number n.
+-- "4, client not idle"; "in phase 1 of a write only its value is set, of a read it is zero"
+unfoldable pub begin : Client → ℕ → ℕ → ℕ → Result Client
+begin c kind value n =
+    guard (isIdle (c .phase)) 4 (done (record { phase = Reading (number n); kind = kind; entry = entry 0 0 value }))
+
+-- the answers that close a phase
+abbrev pub closeSize : Phase → View → ℕ
+closeSize Idle v = writeSize v
+closeSize (Reading r) v = readSize v
+closeSize (Writing r) v = writeSize v
+
+-- "A reader writes the chosen entry back. A writer writes (count+1, own number, its value)."
+unfoldable pub toWrite : Client → ℕ → Entry → Entry
+toWrite c who e = if (eqb (c .kind) WRITES) (entry (countOf e + 1) who (c .entry .value)) e
+
+-- "11, the closing write would need a count over 4,294,967,295"
+unfoldable pub countLeft : Client → Entry → Bool
+countLeft c e = not (eqb (c .kind) WRITES) || ltb (countOf e) lastCount
+
+-- the client after its phase closed, and whether its operation is complete
+pub record Close : Type 0 where
+  pub client : Client
+  pub complete : Bool
+
+-- READ closes: its WRITE, number n, is next. "Closing WRITE completes the operation; the entry is its result."
+abbrev pub closeBy : Phase → Client → ℕ → Entry → ℕ → Result Close
+closeBy Idle c who e n = refused 7
+closeBy (Reading r) c who e n =
+    guard (countLeft c e) 11
+    (done (record { client = record { phase = Writing (number n); kind = c .kind; entry = toWrite c who e }; complete = false }))
+closeBy (Writing r) c who e n =
+    done (record { client = record { phase = Idle; kind = c .kind; entry = c .entry }; complete = true })
+
+unfoldable pub close : Client → ℕ → Entry → ℕ → Result Close
+close c who e n = closeBy (c .phase) c who e n
+
+-- "END number u16 (0 unless ending)"
+abbrev pub endOf : Ending → ℕ
+endOf Settled = 0
+endOf (EndSent r) = r .0
+
+abbrev pub isEnding : Ending → Bool
+isEnding Settled = false
+isEnding (EndSent r) = true
+
+-- "New view t+1, t being the newest: its members and f are recorded and END t is sent", number n.
+-- "4, ending; 8, size rule broken or newest is 32"
+unfoldable pub call : Administrator → View → ℕ → Result Administrator
+call a v n =
+    guard (not (isEnding (a .ending))) 4
+    (guard (sized v && ltb (a .newest .0) views) 8 (done (record { newest = a .newest; ending = EndSent (number n) })))
+
+-- "t+1 becomes the newest"
+unfoldable pub advance : Administrator → Administrator
+advance a = record { newest = record { 0 = a .newest .0 + 1 }; ending = Settled }
+
+-- the number and values of each case of the answers
+abbrev pub begun : Begun → Result Client
+begun (BeginRefused n) = refused n
+begun (Began c) = done c
+
+abbrev pub taken : Taken → Option Entry
+taken Open = none
+taken (Closed e) = some e
+
+abbrev pub closing : Closing → Result Close
+closing (CloseRefused n) = refused n
+closing (WritesNext c) = done (record { client = c; complete = false })
+closing (Completed c) = done (record { client = c; complete = true })
+
+abbrev pub called : Called → Result Administrator
+called (CallRefused n) = refused n
+called (Calling a) = done a

@@ -1,0 +1,13 @@
+pub mod Types
+pub mod Tools
+pub mod Sizes
+pub mod Entries
+pub mod Servers
+pub mod Clients
+pub mod Worlds
+pub mod Chains
+pub mod Readable
+pub mod Steps
+pub mod Consistent
+pub mod Runs
+pub mod Sessions

@@ -1,0 +1,121 @@
+// The records of the protocol. The rules on them are the definitions in specs/.
+
+// Four counters, counted apart.
+pub struct StampCount(pub u32);
+
+pub struct ViewNumber(pub u8);
+
+pub struct MessageNumber(pub u16);
+
+pub struct ServerNumber(pub u8);
+
+// Compared by count, then writer.
+pub struct Stamp {
+    pub count: StampCount,
+    pub writer: u8,
+}
+
+pub struct Entry {
+    pub stamp: Stamp,
+    pub value: u32,
+}
+
+// A view's server set, bit s-1 for server s, and its threshold.
+pub struct View {
+    pub members: u32,
+    pub f: u8,
+}
+
+// A server's record; key t is bit t-1 of keys.
+pub struct Server {
+    pub view: ViewNumber,
+    pub faulty: bool,
+    pub keys: u32,
+    pub entry: Entry,
+}
+
+// An open phase carries its request's number.
+pub enum Phase {
+    Idle,
+    Reading(MessageNumber),
+    Writing(MessageNumber),
+}
+
+// A client's record; kind is 0 none yet, 1 write, 2 read.
+pub struct Client {
+    pub phase: Phase,
+    pub kind: u8,
+    pub entry: Entry,
+}
+
+// Whether the newest view is being ended, and by which END.
+pub enum Ending {
+    Settled,
+    EndSent(MessageNumber),
+}
+
+// The administrator's record.
+pub struct Administrator {
+    pub newest: ViewNumber,
+    pub ending: Ending,
+}
+
+// A message: kind 1 READ, 2 WRITE, 3 END, 4 START, 5 answer.
+pub struct Message {
+    pub kind: u8,
+    pub sender: u8,
+    pub view: ViewNumber,
+    pub taken: bool,
+    pub request: MessageNumber,
+    pub next: MessageNumber,
+    pub entry: Entry,
+}
+
+// A step: kind 1 write, 2 read, 3 deliver, 4 take, 5 fault, 6 false answer, 7 new view.
+pub struct Step {
+    pub kind: u8,
+    pub who: u8,
+    pub view: ViewNumber,
+    pub f: u8,
+    pub message: MessageNumber,
+    pub source: MessageNumber,
+    pub value: u32,
+}
+
+// What an answer shows: its server's view and entry.
+pub struct Shown {
+    pub view: ViewNumber,
+    pub entry: Entry,
+}
+
+// A server's rule: a refusal, its record after it, or that and an answer.
+pub enum Served {
+    ServeRefused(u8),
+    Kept(Server),
+    Answered(Server, Shown),
+}
+
+// A client begins an operation: a refusal, or its record with the phase open.
+pub enum Begun {
+    BeginRefused(u8),
+    Began(Client),
+}
+
+// The answer either closes its phase, with the chosen entry, or leaves it open.
+pub enum Taken {
+    Open,
+    Closed(Entry),
+}
+
+// A client's phase closes: a refusal, a WRITE of its entry is next, or its operation is complete.
+pub enum Closing {
+    CloseRefused(u8),
+    WritesNext(Client),
+    Completed(Client),
+}
+
+// The administrator calls a new view: a refusal, or its record with END sent.
+pub enum Called {
+    CallRefused(u8),
+    Calling(Administrator),
+}
