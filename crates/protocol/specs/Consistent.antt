@@ -17,11 +17,11 @@ pub record Operation : Type 0 where
 
 -- x stands in a list; x stands before y in it; no two places of it hold one operation
 pub data In (x : Operation) : List Operation → Type 0 where
-  here : {l : List Operation} → In x (x ∷ l)
+  here : {y : Operation} {l : List Operation} → y ≡ x → In x (y ∷ l)
   there : {y : Operation} {l : List Operation} → In x l → In x (y ∷ l)
 
 pub data Before (x y : Operation) : List Operation → Type 0 where
-  now : {l : List Operation} → In y l → Before x y (x ∷ l)
+  now : {z : Operation} {l : List Operation} → z ≡ x → In y l → Before x y (z ∷ l)
   later : {z : Operation} {l : List Operation} → Before x y l → Before x y (z ∷ l)
 
 pub data Once : List Operation → Type 0 where

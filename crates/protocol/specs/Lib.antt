@@ -11,3 +11,4 @@ pub mod Steps
 pub mod Consistent
 pub mod Runs
 pub mod Sessions
+pub mod Laws

@@ -1,0 +1,122 @@
+-- The order of stamps, and the larger entry. Assumes nothing.
+use Prim.Native.Nat.{ℕ, zero, suc, _+_, _≤_, _<_}
+use native.Mathlib.Nat.{le-refl}
+use native.Mathlib.Decide.{decLt, decLe}
+use native.Mathlib.Omega.{arith}
+use mathlib.Core.Bool.{Bool, true, false, _&&_, _||_}
+use mathlib.Core.Path.{_≡_, refl, sym, ap, _∙_}
+use mathlib.Core.Logic.{_⊎_, inl, inr}
+use mathlib.Core.List.{List, [], _∷_}
+use lib.Dec.{ltb, eqb}
+use borrow.Author.Tests.{ltb-true, ltb-false, eqb-true, eqb-false, le-ltb, ne-eqb}
+use Rattle.protocol.specs.Types.{Entry}
+use Rattle.protocol.specs.Tools.{if}
+use Rattle.protocol.specs.Entries.{countOf, writerOf, below, larger, largest, chosen}
+use Rattle.protocol.specs.Laws.Tests.{and-left, and-right, or-cases, clash}
+
+infix 50 _≼_
+
+-- the stamp of a is at most that of b
+pub data _≼_ (a b : Entry) : Type 0 where
+  by-count : countOf a < countOf b → a ≼ b
+  by-writer : countOf a ≡ countOf b → writerOf a ≤ writerOf b → a ≼ b
+
+pub ≼-refl : (a : Entry) → a ≼ a
+≼-refl a = by-writer refl (le-refl _)
+
+pub ≼-trans : {a b c : Entry} → a ≼ b → b ≼ c → a ≼ c
+≼-trans (by-count h) (by-count k) = by-count (omega arith)
+≼-trans (by-count h) (by-writer e k) = by-count (omega arith)
+≼-trans (by-writer e h) (by-count k) = by-count (omega arith)
+≼-trans (by-writer e h) (by-writer f k) = by-writer (omega arith) (omega arith)
+
+-- a smaller stamp has no larger count
+pub ≼-count : {a b : Entry} → a ≼ b → countOf a ≤ countOf b
+≼-count (by-count h) = omega arith
+≼-count (by-writer e h) = omega arith
+
+below-≼ : (a b : Entry) → below a b ≡ true → a ≼ b
+unfolding below
+below-≼ a b e = go (or-cases _ _ e)
+  where
+    go : (ltb (countOf a) (countOf b) ≡ true) ⊎ ((eqb (countOf a) (countOf b) && ltb (writerOf a) (writerOf b)) ≡ true) → a ≼ b
+    go (inl h) = by-count (ltb-true _ _ h)
+    go (inr h) =
+        let k : writerOf a < writerOf b = ltb-true _ _ (and-right (eqb (countOf a) (countOf b)) _ h) in
+        by-writer (eqb-true _ _ (and-left _ _ h)) (omega arith)
+
+not-below-≼ : (a b : Entry) → below a b ≡ false → b ≼ a
+unfolding below
+not-below-≼ a b e = go (ltb (countOf a) (countOf b)) (eqb (countOf a) (countOf b)) (ltb (writerOf a) (writerOf b)) refl refl refl e
+  where
+    go : (x y z : Bool) → ltb (countOf a) (countOf b) ≡ x → eqb (countOf a) (countOf b) ≡ y → ltb (writerOf a) (writerOf b) ≡ z → (x || (y && z)) ≡ false → b ≼ a
+    go true y z p q r e = clash refl e
+    go false true true p q r e = clash refl e
+    go false true false p q r e = by-writer (sym (eqb-true _ _ q)) (ltb-false _ _ r)
+    go false false z p q r e = by-count (strict (ltb-false _ _ p) (eqb-false _ _ q))
+      where
+        strict : countOf b ≤ countOf a → (countOf a ≡ countOf b → ⊥) → countOf b < countOf a
+        strict h n = omega arith
+
+-- the larger entry is an upper bound of the two, and one of them
+pub larger-left : (a b : Entry) → a ≼ larger a b
+unfolding larger
+larger-left a b = go (below a b) refl
+  where
+    go : (t : Bool) → below a b ≡ t → a ≼ if t b a
+    go true e = below-≼ a b e
+    go false e = ≼-refl a
+
+pub larger-right : (a b : Entry) → b ≼ larger a b
+unfolding larger
+larger-right a b = go (below a b) refl
+  where
+    go : (t : Bool) → below a b ≡ t → b ≼ if t b a
+    go true e = ≼-refl b
+    go false e = not-below-≼ a b e
+
+pub larger-one : (a b : Entry) → (larger a b ≡ a) ⊎ (larger a b ≡ b)
+unfolding larger
+larger-one a b = go (below a b)
+  where
+    go : (t : Bool) → (if t b a ≡ a) ⊎ (if t b a ≡ b)
+    go true = inr refl
+    go false = inl refl
+
+-- an entry of a list
+pub data Listed (x : Entry) : List Entry → Type 0 where
+  head : {y : Entry} {xs : List Entry} → y ≡ x → Listed x (y ∷ xs)
+  tail : {y : Entry} {xs : List Entry} → Listed x xs → Listed x (y ∷ xs)
+
+start-le : (e : Entry) (l : List Entry) → e ≼ largest e l
+unfolding largest
+start-le e [] = ≼-refl e
+start-le e (x ∷ xs) = ≼-trans (larger-right x e) (start-le (larger x e) xs)
+
+largest-le : (e : Entry) {x : Entry} {l : List Entry} → Listed x l → x ≼ largest e l
+unfolding largest
+largest-le e (head {y} {xs} q) = rw (← q) (≼-trans (larger-left y e) (start-le (larger y e) xs))
+largest-le e (tail {y} i) = largest-le (larger y e) i
+
+largest-one : (e : Entry) (l : List Entry) → (largest e l ≡ e) ⊎ Listed (largest e l) l
+unfolding largest
+largest-one e [] = inl refl
+largest-one e (x ∷ xs) = go (larger-one x e) (largest-one (larger x e) xs)
+  where
+    go : (larger x e ≡ x) ⊎ (larger x e ≡ e) → (largest (larger x e) xs ≡ larger x e) ⊎ Listed (largest (larger x e) xs) xs
+        → (largest (larger x e) xs ≡ e) ⊎ Listed (largest (larger x e) xs) (x ∷ xs)
+    go d (inr i) = inr (tail i)
+    go (inl p) (inl q) = inr (head (sym (q ∙ p)))
+    go (inr p) (inl q) = inl (rw (q, p))
+
+-- the chosen entry is an upper bound of those of the list, and one of them
+pub chosen-le : {x : Entry} {l : List Entry} → Listed x l → x ≼ chosen l
+chosen-le (head {y} {xs} q) = rw (← q) (start-le y xs)
+chosen-le (tail {y} i) = largest-le y i
+
+pub chosen-one : (e : Entry) (l : List Entry) → Listed (chosen (e ∷ l)) (e ∷ l)
+chosen-one e l = go (largest-one e l)
+  where
+    go : (largest e l ≡ e) ⊎ Listed (largest e l) l → Listed (largest e l) (e ∷ l)
+    go (inl p) = head (sym p)
+    go (inr i) = tail i

@@ -1,0 +1,97 @@
+-- Tests that keep what they tell. Assumes nothing.
+use Prim.Native.Nat.{ℕ, zero, suc, _+_, _≤_, _<_}
+use native.Mathlib.Nat.{eq-or-lt-of-le}
+use native.Mathlib.Omega.{arith}
+use mathlib.Core.Bool.{Bool, true, false, not, _&&_, _||_, true≢false}
+use mathlib.Core.Path.{_≡_, refl, sym, ap, _∙_}
+use mathlib.Core.Logic.{_⊎_, inl, inr}
+use mathlib.Core.List.{List, [], _∷_}
+use lib.Dec.{ltb, leb, eqb}
+use borrow.Author.Tests.{leb-true, eqb-true}
+use Rattle.protocol.specs.Tools.{within, allTo, any, Result, refused, done, then}
+
+pub and-left : (x y : Bool) → (x && y) ≡ true → x ≡ true
+and-left true y e = refl
+and-left false y e = cc
+
+pub and-right : (x y : Bool) → (x && y) ≡ true → y ≡ true
+and-right true y e = e
+and-right false y e = cc
+
+pub and-both : (x y : Bool) → x ≡ true → y ≡ true → (x && y) ≡ true
+and-both true y e f = f
+and-both false y e f = e
+
+pub or-cases : (x y : Bool) → (x || y) ≡ true → (x ≡ true) ⊎ (y ≡ true)
+or-cases true y e = inl refl
+or-cases false y e = inr e
+
+-- a test that passed and failed
+pub clash : {A : Type 0} {b : Bool} → b ≡ true → b ≡ false → A
+clash p q = absurd (true≢false (sym p ∙ q))
+
+-- by cases on a test, with what it tells
+pub by-test : {P : Type 0} (b : Bool) → (b ≡ true → P) → (b ≡ false → P) → P
+by-test true f g = f refl
+by-test false f g = g refl
+
+pub by-bool : (b : Bool) → (b ≡ true) ⊎ (b ≡ false)
+by-bool true = inl refl
+by-bool false = inr refl
+
+-- the last of n + 1, or one before
+pub last-or : (i n : ℕ) → i ≤ suc n → (i ≡ suc n) ⊎ (i ≤ n)
+last-or i n h = go (eq-or-lt-of-le h)
+  where
+    go : (i ≡ suc n) ⊎ (i < suc n) → (i ≡ suc n) ⊎ (i ≤ n)
+    go (inl e) = inl e
+    go (inr l) = inr (omega arith)
+
+pub within-true : (low high n : ℕ) → within low high n ≡ true → (low ≤ n) × (n ≤ high)
+within-true low high n e = (leb-true _ _ (and-left _ _ e), leb-true _ _ (and-right (leb low n) _ e))
+
+pub allTo-at : (p : ℕ → Bool) (n i : ℕ) → allTo p n ≡ true → 1 ≤ i → i ≤ n → p i ≡ true
+unfolding allTo
+allTo-at p zero i e l h = absurd (omega arith)
+allTo-at p (suc n) i e l h = go (last-or i n h) (allTo-at p n i (and-left (allTo p n) _ e) l)
+  where
+    go : (i ≡ suc n) ⊎ (i ≤ n) → (i ≤ n → p i ≡ true) → p i ≡ true
+    go (inl q) ih = rw q (and-right (allTo p n) _ e)
+    go (inr q) ih = ih q
+
+-- a member of a list of numbers that passes a test
+pub data Has (P : ℕ → Type 0) : List ℕ → Type 0 where
+  first : {k : ℕ} {ks : List ℕ} → P k → Has P (k ∷ ks)
+  after : {k : ℕ} {ks : List ℕ} → Has P ks → Has P (k ∷ ks)
+
+pub data Each (P : ℕ → Type 0) : List ℕ → Type 0 where
+  none : Each P []
+  both : {k : ℕ} {ks : List ℕ} → P k → Each P ks → Each P (k ∷ ks)
+
+pub record Found (P : ℕ → Type 0) (p : ℕ → Bool) : Type 0 where
+  pub at : ℕ
+  pub has : P at
+  pub test : p at ≡ true
+
+-- what holds of each member holds of one that passes
+pub any-found : {P : ℕ → Type 0} (p : ℕ → Bool) {ks : List ℕ} → Each P ks → any p ks ≡ true → Found P p
+unfolding any
+any-found {P} p none e = clash e refl
+any-found {P} p (both {k} {ks} h hs) e = go (or-cases (p k) (any p ks) e) (any-found p hs)
+  where
+    go : (p k ≡ true) ⊎ (any p ks ≡ true) → (any p ks ≡ true → Found P p) → Found P p
+    go (inl t) ih = record { at = k; has = h; test = t }
+    go (inr t) ih = ih t
+
+-- a result that goes on was no refusal
+pub record Went {A B : Type 0} (x : Result A) (f : A → Result B) (v : B) : Type 0 where
+  pub value : A
+  pub is : x ≡ done value
+  pub on : f value ≡ done v
+
+pub went : {A B : Type 0} (x : Result A) (f : A → Result B) (v : B) → then x f ≡ done v → Went x f v
+went (refused n) f v e = record { value = absurd (zero-one n v e); is = absurd (zero-one n v e); on = absurd (zero-one n v e) }
+  where
+    zero-one : {A : Type 0} (n : ℕ) (v : A) → _≡_ {A = Result A} (refused n) (done v) → ⊥
+    zero-one n v e = let z : _≡_ {A = ℕ} 0 1 = cc in omega arith
+went (done a) f v e = record { value = a; is = refl; on = e }

@@ -1,0 +1,549 @@
+-- Every accepted step of a client or of the administrator satisfies the relation: write, read, take, new view; so every
+-- accepted step does. Assumes nothing.
+use Prim.Native.Nat.{ℕ, zero, suc, _+_, _≤_, _<_}
+use native.Mathlib.Nat.{le-refl}
+use native.Mathlib.Decide.{ℕ-discrete, decLe}
+use native.Mathlib.Omega.{arith}
+use mathlib.Core.Bool.{Bool, true, false, not, _&&_, _||_}
+use mathlib.Core.Path.{_≡_, refl, sym, ap, _∙_, subst}
+use mathlib.Core.Logic.{_⊎_, inl, inr, _≢_}
+use mathlib.Core.List.{List, [], _∷_}
+use lib.ListN.{length, List·getD-eq-default}
+use lib.Dec.{ltb, leb, eqb}
+use borrow.Author.Tests.{ltb-true, leb-true, eqb-true, eqb-false, eq-eqb, not-true}
+use Rattle.protocol.specs.Types.{ViewNumber, Entry, View, Server, Phase, Idle, Reading, Writing, Client, Administrator, Ending, Settled, EndSent, Message, Step}
+use Rattle.protocol.specs.Tools.{if, within, nth, Result, refused, done, guard, then, passed}
+use Rattle.protocol.specs.Sizes.{clients, servers, views, messages, sized, readSize, writeSize}
+use Rattle.protocol.specs.Entries.{entry, empty, chosen}
+use Rattle.protocol.specs.Servers.{READ, WRITE, END, START, ANSWER, isRequest}
+use Rattle.protocol.specs.Clients.{WRITES, READS, number, isIdle, requestOf, begin, closeSize, toWrite, countLeft, Close, closeBy, close, isEnding, endOf, call, advance}
+use Rattle.protocol.specs.Worlds.{World, noClient, view, server, client, message, newest, present, room, withClient, withView, withMessage, withAdministrator, send, nextNumber}
+use Rattle.protocol.specs.Chains.{enough, shown}
+use Rattle.protocol.specs.Steps.{After, moved, request, begins, link, open?, takenWith, closes, starts, takes, take, newView, deliver, fault, lie, fieldsFit, CLIENT, SERVER, uses, field, perform, step}
+use Rattle.protocol.specs.Laws.Tests.{and-left, and-right, by-test, by-bool, clash, within-true, Went, went}
+use Rattle.protocol.specs.Laws.Worlds.{content, sent, sent-link, client-same, client-other, view-same, view-other, length-replace}
+use Rattle.protocol.specs.Laws.Change.{Votes, To, Chosen, Sent, Asked, Started, Closed, Kept, Acted, same, began, wrote, ended, Writer, New, Posted, none as unsent, Change, Moved}
+use Rattle.protocol.specs.Laws.Sound.{Mail, Sized, Sound, Answer, mail-same, mail-link, sized-same, sound-send, Taking, close-votes, close-chosen, link-count}
+use Rattle.protocol.specs.Laws.Moves.{done-is, apart, is-done, grew-refl, Post, post, posted, quiet, idle-acted, room-left, present-is, Lawful, IsServer, fault-lawful, deliver-lawful, lie-lawful}
+
+-- a client's number
+pub record IsClient (c : ℕ) : Type 0 where
+  pub low : 1 ≤ c
+  pub high : c ≤ clients
+
+idle-is : (p : Phase) → isIdle p ≡ true → p ≡ Idle
+idle-is Idle e = refl
+idle-is (Reading r) e = clash e refl
+idle-is (Writing r) e = clash e refl
+
+refused-done : {A B : Type 0} {n : ℕ} {v : A} → _≡_ {A = Result A} (refused n) (done v) → B
+refused-done e = let z : _≡_ {A = ℕ} 0 1 = cc in absurd (omega arith)
+
+-- only a client has an open phase
+open-client : {w : World} → Sound w → (c r : ℕ) → requestOf (client w c .phase) ≡ r → 1 ≤ r → IsClient c
+unfolding client nth
+open-client {w} h zero r e l = absurd (omega arith)
+open-client {w} h (suc c) r e l = go (decLe (suc c) clients)
+  where
+    go : Dec (suc c ≤ clients) → IsClient (suc c)
+    go (yes k) = record { low = omega arith; high = k }
+    go (no k) =
+        let z : 0 ≡ r = sym (ap (λ (x : Client). requestOf (x .phase)) (List·getD-eq-default (w .clientList) noClient (omega (arith, h .clientCount)))) ∙ e in
+        absurd (omega arith)
+
+-- a world with one client changed
+client-sound : {w : World} → Sound w → (c : ℕ) (a : Client) → Sound (withClient w c a)
+unfolding withClient sent message view
+client-sound {w} h c a =
+    record {
+      mail = mail-same (h .mail) refl refl (λ i. refl) (h .mail .links);
+      sized = sized-same (h .sized) refl refl;
+      serverCount = h .serverCount;
+      clientCount = length-replace (w .clientList) c a ∙ h .clientCount;
+    }
+
+-- ---- write and read
+
+module _ {w : World} (h : Sound w) {c : ℕ} (r : IsClient c) (l : w .used < messages) (kind : ℕ) (a : Client) (i : client w c .phase ≡ Idle) (p : a .phase ≡ Reading (number (w .used + 1))) (k : a .kind ≡ kind) where
+  abbrev begun : World
+  begun = send (withClient w c a) (request READ c 0 empty)
+
+  begun-post : Post w begun (request READ c 0 empty)
+  unfolding withClient sent message
+  begun-post = post w (withClient w c a) (request READ c 0 empty) (h .mail) l refl refl (λ i. refl)
+
+  begun-client : client begun c ≡ a
+  unfolding send withClient client
+  begun-client = client-same w c a (r .low) (omega (arith, r .high, h .clientCount))
+
+  begun-other : (x : ℕ) → x ≢ c → client begun x ≡ client w x
+  unfolding send withClient client
+  begun-other x n = client-other w c a x n
+
+  begun-acted : (x : ℕ) → 1 ≤ x → Acted w begun 0 c kind x
+  unfolding send withClient
+  begun-acted x n = go (ℕ-discrete x c)
+    where
+      go : Dec (x ≡ c) → Acted w begun 0 c kind x
+      go (yes q) = rw q (began refl (λ z. omega (arith, r .low)) refl i (ap (λ (y : Client). y .phase) begun-client ∙ p) (ap (λ (y : Client). y .kind) begun-client ∙ k))
+      go (no q) = same (begun-other x q) (λ z. omega arith) (λ z. q (sym z))
+
+  begun-lawful : Lawful w begun 0 c kind
+  unfolding withClient server view content
+  begun-lawful =
+      record {
+        sound = sound-send (client-sound h c a) (request READ c 0 empty) l refl (apart READ ANSWER refl);
+        moved = record {
+          change = quiet (withClient w c a) (request READ c 0 empty) begun-post (λ s. refl) (λ t l. refl)
+            (record { answer = apart READ ANSWER refl; start = apart READ START refl; write = apart READ WRITE refl }) (inl refl);
+          acted = begun-acted;
+        };
+      }
+
+-- "Write, read": accepted
+pub begins-lawful : {w : World} → Sound w → {c : ℕ} → IsClient c → (kind value : ℕ) (a : After) → begins w c kind value ≡ done a → Lawful w (a .world) (a .completed) c kind
+unfolding begins begin
+begins-lawful {w} h {c} r kind value a e =
+    let g = went _ _ _ e in
+    let (i, f) = passed _ _ _ _ (g .is) in
+    let (l, e1) = passed _ _ _ _ (g .on) in
+    let q = is-done f in
+    subst (λ (x : After). Lawful w (x .world) (x .completed) c kind) (done-is e1)
+    (begun-lawful h r (room-left w l) kind (g .value) (idle-is _ i) (ap (λ (y : Client). y .phase) q) (ap (λ (y : Client). y .kind) q))
+
+-- ---- take: the answer k, with view t, to request r
+
+module _ {w : World} (h : Sound w) {k r t : ℕ} (y : Taking w k r t) where
+  link-sound : Sound (link w k)
+  unfolding link withMessage view
+  link-sound =
+      record {
+        mail = mail-link (h .mail) k (y .answer .below) (y .answer .is);
+        sized = sized-same (h .sized) refl refl;
+        serverCount = h .serverCount;
+        clientCount = h .clientCount;
+      }
+
+  -- it leaves its phase open
+  open-lawful : (kind : ℕ) → Lawful w (link w k) 0 0 kind
+  unfolding link withMessage server view client
+  open-lawful kind =
+      record {
+        sound = link-sound;
+        moved = record {
+          change = record { old = λ i l. sent-link w k i; posted = unsent refl refl; views = λ t l. refl; grew = λ s. grew-refl (server w s) };
+          acted = idle-acted (λ c. refl);
+        };
+      }
+
+  -- it closes a phase of client c
+  module _ {c : ℕ} (i : IsClient c) (a : Client) where
+    abbrev turned : World
+    turned = withClient (link w k) c a
+
+    turned-client : client turned c ≡ a
+    turned-client = client-same (link w k) c a (i .low) (omega (arith, i .high, link-sound .clientCount))
+
+    turned-other : (x : ℕ) → x ≢ c → client turned x ≡ client w x
+    unfolding link withMessage client
+    turned-other x n = client-other (link w k) c a x n
+
+    turned-server : (s : ℕ) → server turned s ≡ server w s
+    unfolding withClient link withMessage server
+    turned-server s = refl
+
+    turned-view : (t : ℕ) → view turned t ≡ view w t
+    unfolding withClient link withMessage view
+    turned-view t = refl
+
+    turned-sent : (j : ℕ) → sent turned j ≡ sent w j
+    unfolding withClient sent message
+    turned-sent j = sent-link w k j
+
+    turned-used : turned .used ≡ w .used
+    unfolding withClient link withMessage
+    turned-used = refl
+
+    turned-newest : newest turned ≡ newest w
+    unfolding withClient link withMessage
+    turned-newest = refl
+
+    turned-count : length (turned .messageList) ≡ length (w .messageList)
+    unfolding withClient
+    turned-count = link-count w k
+
+    -- a WRITE phase: its operation is complete
+    ended-lawful : (q : ℕ) → client w c .phase ≡ Writing (number q) → a .phase ≡ Idle → a .entry ≡ client w c .entry → Kept w q → (kind : ℕ) → Lawful w turned c 0 kind
+    ended-lawful q p f e v kind =
+        record {
+          sound = client-sound link-sound c a;
+          moved = record {
+            change = record { old = λ j l. turned-sent j; posted = unsent turned-used turned-newest; views = λ t l. turned-view t; grew = λ s. rw (turned-server s) (grew-refl (server w s)) };
+            acted = λ x l. go x l (ℕ-discrete x c);
+          };
+        }
+      where
+        go : (x : ℕ) → 1 ≤ x → Dec (x ≡ c) → Acted w turned c 0 kind x
+        go x l (yes z) =
+            rw z (ended q refl (λ n. omega (arith, i .low)) p (ap (λ (b : Client). b .phase) turned-client ∙ f) (ap (λ (b : Client). b .entry) turned-client ∙ e) v)
+        go x l (no z) = same (turned-other x z) (λ n. z (sym n)) (λ n. omega arith)
+
+    -- a READ phase: its WRITE is sent
+    module _ (l : w .used < messages) (q : ℕ) (e : Entry) (p : client w c .phase ≡ Reading (number q)) (f : a .phase ≡ Writing (number (w .used + 1))) (b : a .kind ≡ client w c .kind)
+        (d : a .entry ≡ toWrite (client w c) c e) (vs : Votes w t (readSize (view w t)) (λ s j. To w q e j)) (ch : Chosen w t q e) where
+      abbrev wrotten : World
+      wrotten = send turned (request WRITE c 0 (a .entry))
+
+      wrote-post : Post w wrotten (request WRITE c 0 (a .entry))
+      wrote-post = post w turned (request WRITE c 0 (a .entry)) (h .mail) l turned-used turned-count turned-sent
+
+      wrote-client : client wrotten c ≡ a
+      unfolding send client
+      wrote-client = turned-client
+
+      wrote-other : (x : ℕ) → x ≢ c → client wrotten x ≡ client w x
+      unfolding send client
+      wrote-other x n = turned-other x n
+
+      wrote-phase : client wrotten c .phase ≡ Writing (number (wrotten .used))
+      wrote-phase = ap (λ (x : Client). x .phase) wrote-client ∙ f ∙ ap (λ (n : ℕ). Writing (number n)) (sym (wrote-post .used))
+
+      closed : Closed w wrotten c q
+      unfolding content
+      closed =
+          record {
+            tag = t;
+            entry = e;
+            votes = vs;
+            chosen = ch;
+            writes = ap (λ (m : Message). m .kind) (wrote-post .new);
+            sender = ap (λ (m : Message). m .sender) (wrote-post .new);
+            carries = ap (λ (m : Message). m .entry) (wrote-post .new) ∙ d;
+          }
+
+      wrote-acted : (kind x : ℕ) → 1 ≤ x → Acted w wrotten 0 0 kind x
+      unfolding content
+      wrote-acted kind x n = go (ℕ-discrete x c)
+        where
+          go : Dec (x ≡ c) → Acted w wrotten 0 0 kind x
+          go (yes z) =
+              rw z (wrote q (λ o. omega (arith, i .low)) (λ o. omega (arith, i .low)) (wrote-post .used) p wrote-phase (ap (λ (y : Client). y .kind) wrote-client ∙ b)
+              (ap (λ (y : Client). y .entry) wrote-client ∙ sym (ap (λ (m : Message). m .entry) (wrote-post .new))) closed)
+          go (no z) = same (wrote-other x z) (λ o. omega arith) (λ o. omega arith)
+
+      wrote-lawful : (kind : ℕ) → Lawful w wrotten 0 0 kind
+      unfolding content
+      wrote-lawful kind =
+          record {
+            sound = sound-send (client-sound link-sound c a) (request WRITE c 0 (a .entry)) (omega (arith, turned-used)) refl (apart WRITE ANSWER refl);
+            moved = record {
+              change = quiet turned (request WRITE c 0 (a .entry)) wrote-post turned-server (λ t l. turned-view t)
+                (record { answer = apart WRITE ANSWER refl; start = apart WRITE START refl; write = λ _. record { low = i .low; was = q; reading = p; writing = wrote-phase } })
+                (inl turned-newest);
+              acted = wrote-acted kind;
+            };
+          }
+
+  -- it closes the END of the newest view
+  module _ (l : w .used < messages) (e : Entry) (n : isEnding (w .administrator .ending) ≡ true) (z : sent w r .kind ≡ END)
+      (vs : Votes w (newest w) (writeSize (view w (newest w))) (λ s j. To w r e j)) (ch : Chosen w (newest w) r e) where
+    abbrev raised : World
+    raised = withAdministrator (link w k) (advance (w .administrator))
+
+    abbrev starting : Message
+    starting = request START 0 (newest w + 1) e
+
+    raised-view : (t : ℕ) → view raised t ≡ view w t
+    unfolding withAdministrator link withMessage view
+    raised-view t = refl
+
+    raised-sound : Sound raised
+    unfolding withAdministrator advance sent message
+    raised-sound =
+        record {
+          mail = mail-same (link-sound .mail) refl refl (λ i. refl) (link-sound .mail .links);
+          sized = record {
+            count = link-sound .sized .count;
+            low = omega arith;
+            sizes = λ t a b. rw (raised-view t) (sizes-on t a (ℕ-discrete t (newest w + 1)) b);
+            pending = λ i. clash i refl;
+          };
+          serverCount = link-sound .serverCount;
+          clientCount = link-sound .clientCount;
+        }
+      where
+        sizes-on : (t : ℕ) → 1 ≤ t → Dec (t ≡ newest w + 1) → t ≤ newest w + 1 → sized (view w t) ≡ true
+        sizes-on t a (yes q) b = rw q (h .sized .pending n .0)
+        sizes-on t a (no q) b = h .sized .sizes t a (omega arith)
+
+    raised-server : (s : ℕ) → server raised s ≡ server w s
+    unfolding withAdministrator link withMessage server
+    raised-server s = refl
+
+    raised-client : (c : ℕ) → client (send raised starting) c ≡ client w c
+    unfolding send withAdministrator link withMessage client
+    raised-client c = refl
+
+    raised-sent : (j : ℕ) → sent raised j ≡ sent w j
+    unfolding withAdministrator sent message
+    raised-sent j = sent-link w k j
+
+    raised-used : raised .used ≡ w .used
+    unfolding withAdministrator link withMessage
+    raised-used = refl
+
+    raised-count : length (raised .messageList) ≡ length (w .messageList)
+    unfolding withAdministrator
+    raised-count = link-count w k
+
+    start-post : Post w (send raised starting) starting
+    start-post = post w raised starting (h .mail) l raised-used raised-count raised-sent
+
+    started : Started w (send raised starting) (content starting)
+    unfolding content send withAdministrator advance
+    started = record { tag = refl; raised = refl; end = r; ends = z; votes = vs; chosen = ch }
+
+    start-lawful : (kind : ℕ) → Lawful w (send raised starting) 0 0 kind
+    unfolding content
+    start-lawful kind =
+        record {
+          sound = sound-send raised-sound starting (omega (arith, raised-used)) refl (apart START ANSWER refl);
+          moved = record {
+            change = quiet raised starting start-post raised-server (λ t l. raised-view t)
+              (record { answer = apart START ANSWER refl; start = λ _. started; write = apart START WRITE refl }) (inr refl);
+            acted = idle-acted raised-client;
+          };
+        }
+
+  -- a phase of client c closes with the chosen entry
+  closes-lawful : (c : ℕ) → requestOf (client w c .phase) ≡ r → enough w t (takenWith w k) (closeSize (client w c .phase) (view w t)) ≡ true
+      → (a : After) → closes w k c (chosen (shown w t (takenWith w k))) ≡ done a → (kind : ℕ) → Lawful w (a .world) (a .completed) 0 kind
+  unfolding closes close
+  closes-lawful c o en a e kind =
+      let g = went _ _ _ e in
+      go (client w c .phase) refl o en (g .value) (g .is) (g .on)
+    where
+      e′ : Entry
+      e′ = chosen (shown w t (takenWith w k))
+
+      i : IsClient c
+      i = open-client h c r o (y .asked .low)
+
+      as-number : {q r : ℕ} → q ≡ r → number q ≡ number r
+      as-number q = ap number q
+
+      go : (p : Phase) → client w c .phase ≡ p → requestOf p ≡ r → enough w t (takenWith w k) (closeSize p (view w t)) ≡ true → (x : Close) → closeBy p (client w c) c e′ (nextNumber w) ≡ done x
+          → if (x .complete) (done (record { world = withClient (link w k) c (x .client); completed = c }))
+          (guard (room w) 10 (moved (send (withClient (link w k) c (x .client)) (request WRITE c 0 (x .client .entry))))) ≡ done a
+          → Lawful w (a .world) (a .completed) 0 kind
+      go Idle p o en x f e = refused-done f
+      go (Reading q) p o en x f e =
+          let (u, f1) = passed _ _ _ _ f in
+          let d = is-done f1 in
+          let (l, e1) = passed _ _ _ _ (rw (ap (λ (z : Close). z .complete) d) at e) in
+          subst (λ (z : After). Lawful w (z .world) (z .completed) 0 kind) (done-is e1)
+          (wrote-lawful i (x .client) (room-left w l) r e′ (p ∙ ap Reading (as-number o)) (ap (λ (z : Close). z .client .phase) d) (ap (λ (z : Close). z .client .kind) d)
+          (ap (λ (z : Close). z .client .entry) d) (close-votes y _ en) (close-chosen y) kind)
+      go (Writing q) p o en x f e =
+          let d = is-done f in
+          subst (λ (z : After). Lawful w (z .world) (z .completed) 0 kind) (done-is (rw (ap (λ (z : Close). z .complete) d) at e))
+          (ended-lawful i (x .client) r (p ∙ ap Writing (as-number o)) (ap (λ (z : Close). z .client .phase) d) (ap (λ (z : Close). z .client .entry) d)
+          (record { tag = t; entry = e′; votes = close-votes y _ en; chosen = close-chosen y }) kind)
+
+  starts-lawful : message w r .kind ≡ END → endOf (w .administrator .ending) ≡ r → t ≡ newest w → enough w t (takenWith w k) (writeSize (view w t)) ≡ true
+      → (a : After) → starts w k (chosen (shown w t (takenWith w k))) ≡ done a → (kind : ℕ) → Lawful w (a .world) (a .completed) 0 kind
+  unfolding starts sent content
+  starts-lawful z o q en a e kind =
+      let (l, e1) = passed _ _ _ _ e in
+      subst (λ (x : After). Lawful w (x .world) (x .completed) 0 kind) (done-is e1)
+      (start-lawful (room-left w l) _ (ending (w .administrator .ending) o) z (at-newest q (close-votes y _ en)) (chosen-newest q (close-chosen y)) kind)
+    where
+      ending : (x : Ending) → endOf x ≡ r → isEnding x ≡ true
+      ending Settled o = absurd (omega (arith, y .asked .low))
+      ending (EndSent n) o = refl
+
+      at-newest : {u : ℕ} {P : ℕ → ℕ → Type 0} → u ≡ newest w → Votes w u (writeSize (view w u)) P → Votes w (newest w) (writeSize (view w (newest w))) P
+      at-newest {u} {P} q v = subst (λ (x : ℕ). Votes w x (writeSize (view w x)) P) q v
+
+      chosen-newest : {u : ℕ} {x : Entry} → u ≡ newest w → Chosen w u r x → Chosen w (newest w) r x
+      chosen-newest {u} {x} q c = subst (λ (n : ℕ). Chosen w n r x) q c
+
+  takes-lawful : open? w r ≡ true → (a : After) → takes w k r t ≡ done a → (kind : ℕ) → Lawful w (a .world) (a .completed) 0 kind
+  unfolding takes open?
+  takes-lawful o a e kind = go (eqb (message w r .kind) END) refl o e
+    where
+      stays : moved (link w k) ≡ done a → Lawful w (a .world) (a .completed) 0 kind
+      stays e = subst (λ (x : After). Lawful w (x .world) (x .completed) 0 kind) (done-is e) (open-lawful kind)
+
+      ends : message w r .kind ≡ END → endOf (w .administrator .ending) ≡ r → (b : Bool) → (eqb t (newest w) && enough w t (takenWith w k) (writeSize (view w t))) ≡ b
+          → if b (starts w k (chosen (shown w t (takenWith w k)))) (moved (link w k)) ≡ done a → Lawful w (a .world) (a .completed) 0 kind
+      ends z o true b e = starts-lawful z o (eqb-true _ _ (and-left _ _ b)) (and-right (eqb t (newest w)) _ b) a e kind
+      ends z o false b e = stays e
+
+      closing : requestOf (client w (message w r .sender) .phase) ≡ r → (b : Bool) → enough w t (takenWith w k) (closeSize (client w (message w r .sender) .phase) (view w t)) ≡ b
+          → if b (closes w k (message w r .sender) (chosen (shown w t (takenWith w k)))) (moved (link w k)) ≡ done a → Lawful w (a .world) (a .completed) 0 kind
+      closing o true b e = closes-lawful (message w r .sender) o b a e kind
+      closing o false b e = stays e
+
+      go : (b : Bool) → eqb (message w r .kind) END ≡ b → if b (eqb (endOf (w .administrator .ending)) r) (eqb (requestOf (client w (message w r .sender) .phase)) r) ≡ true
+          → if b (if (eqb t (newest w) && enough w t (takenWith w k) (writeSize (view w t))) (starts w k (chosen (shown w t (takenWith w k)))) (moved (link w k)))
+          (if (enough w t (takenWith w k) (closeSize (client w (message w r .sender) .phase) (view w t))) (closes w k (message w r .sender) (chosen (shown w t (takenWith w k)))) (moved (link w k))) ≡ done a
+          → Lawful w (a .world) (a .completed) 0 kind
+      go true b o e = ends (eqb-true _ _ b) (eqb-true _ _ o) _ refl e
+      go false b o e = closing (eqb-true _ _ o) _ refl e
+
+-- "Take": accepted
+pub take-lawful : {w : World} → Sound w → (k : ℕ) (a : After) → take w k ≡ done a → (kind : ℕ) → Lawful w (a .world) (a .completed) 0 kind
+unfolding take sent content
+take-lawful {w} h k a e kind =
+    let (p, e1) = passed _ _ _ _ e in
+    let (o, e2) = passed _ _ _ _ e1 in
+    let (l, u) = present-is w k (and-left _ _ p) in
+    let i = eqb-true _ _ (and-right (present w k) _ p) in
+    takes-lawful h (record { answer = record { below = u; is = i; request = refl }; tag = refl; asked = h .mail .asked k u i; mail = h .mail }) (and-right (not (message w k .taken)) _ o) a e2 kind
+
+-- ---- a new view
+
+views-called : (w : World) (t : ℕ) (v : View) → length (withView w t v .viewList) ≡ length (w .viewList)
+unfolding withView
+views-called w t v = length-replace (w .viewList) t v
+
+views-kept : (w : World) (a : Administrator) → length (withAdministrator w a .viewList) ≡ length (w .viewList)
+unfolding withAdministrator
+views-kept w a = refl
+
+module _ {w : World} (h : Sound w) (v : View) (a : Administrator) (z : sized v ≡ true) (n : newest w < views) (p : a .newest ≡ w .administrator .newest) (l : w .used < messages) where
+  abbrev called : World
+  called = withView (withAdministrator w a) (newest w + 1) v
+
+  abbrev ending : Message
+  ending = request END 0 (newest w) empty
+
+  called-view : (t : ℕ) → t ≤ newest w → view called t ≡ view w t
+  unfolding withAdministrator view
+  called-view t k = view-other (withAdministrator w a) (newest w + 1) v t (λ e. omega arith)
+
+  called-pending : view called (newest w + 1) ≡ v
+  unfolding withAdministrator
+  called-pending = view-same (withAdministrator w a) (newest w + 1) v (omega arith) (omega (arith, h .sized .count))
+
+  called-newest : newest called ≡ newest w
+  unfolding withView withAdministrator
+  called-newest = ap (λ (x : ViewNumber). x .0) p
+
+  called-sized : Sized called
+  called-sized =
+      record {
+        count = counted;
+        low = rw called-newest (h .sized .low);
+        sizes = λ t b k. let m = rw called-newest at k in rw (called-view t m) (h .sized .sizes t b m);
+        pending = λ _. (subst (λ (x : ℕ). sized (view called (x + 1)) ≡ true) (sym called-newest) (rw called-pending z), rw called-newest n);
+      }
+    where
+      counted : length (called .viewList) ≡ views
+      counted = views-called (withAdministrator w a) (newest w + 1) v ∙ views-kept w a ∙ h .sized .count
+
+  called-sound : Sound called
+  unfolding withView withAdministrator sent message
+  called-sound =
+      record {
+        mail = mail-same (h .mail) refl refl (λ i. refl) (h .mail .links);
+        sized = called-sized;
+        serverCount = h .serverCount;
+        clientCount = h .clientCount;
+      }
+
+  called-client : (c : ℕ) → client (send called ending) c ≡ client w c
+  unfolding send withView withAdministrator client
+  called-client c = refl
+
+  called-server : (s : ℕ) → server called s ≡ server w s
+  unfolding withView withAdministrator server
+  called-server s = refl
+
+  call-post : Post w (send called ending) ending
+  unfolding withView withAdministrator sent message
+  call-post = post w called ending (h .mail) l refl refl (λ i. refl)
+
+  called-used : called .used ≡ w .used
+  unfolding withView withAdministrator
+  called-used = refl
+
+  call-lawful : (kind : ℕ) → Lawful w (send called ending) 0 0 kind
+  unfolding content
+  call-lawful kind =
+      record {
+        sound = sound-send called-sound ending (omega (arith, called-used)) refl (apart END ANSWER refl);
+        moved = record {
+          change = quiet called ending call-post called-server called-view
+            (record { answer = apart END ANSWER refl; start = apart END START refl; write = apart END WRITE refl }) (inl called-newest);
+          acted = idle-acted called-client;
+        };
+      }
+
+-- "New view": accepted
+pub newView-lawful : {w : World} → Sound w → (v : View) (a : After) → newView w v ≡ done a → (kind : ℕ) → Lawful w (a .world) (a .completed) 0 kind
+unfolding newView call
+newView-lawful {w} h v a e kind =
+    let g = went _ _ _ e in
+    let (p, f1) = passed _ _ _ _ (g .is) in
+    let (z, f2) = passed _ _ _ _ f1 in
+    let (l, e1) = passed _ _ _ _ (g .on) in
+    subst (λ (x : After). Lawful w (x .world) (x .completed) 0 kind) (done-is e1)
+    (call-lawful h v (g .value) (and-left _ _ z) (ltb-true _ _ (and-right (sized v) _ z)) (ap (λ (x : Administrator). x .newest) (is-done f2)) (room-left w l) kind)
+
+-- ---- every step
+
+-- the client whose operation a step begins, or 0
+abbrev pub starter : Step → ℕ
+starter st = if (eqb (st .kind) WRITES || eqb (st .kind) READS) (st .who) 0
+
+-- the numbers that check 3 lets through
+who-fits : (st : Step) → fieldsFit st ≡ true → field (uses (st .kind) CLIENT || uses (st .kind) SERVER) 1 (if (uses (st .kind) CLIENT) clients servers) (st .who) ≡ true
+unfolding fieldsFit
+who-fits st e = and-left _ _ (and-right (within 1 7 (st .kind)) _ e)
+
+who-client : (st : Step) → fieldsFit st ≡ true → uses (st .kind) CLIENT ≡ true → IsClient (st .who)
+who-client st e u = let (l, k) = within-true 1 clients (st .who) (rw u at (who-fits st e)) in record { low = l; high = k }
+
+who-server : (st : Step) → fieldsFit st ≡ true → uses (st .kind) CLIENT ≡ false → uses (st .kind) SERVER ≡ true → IsServer (st .who)
+who-server st e u v = let (l, k) = within-true 1 servers (st .who) (rw (u, v) at (who-fits st e)) in record { low = l; high = k }
+
+-- by the table
+module _ (st : Step) (k : ℕ) (e : fieldsFit st ≡ true) (q : st .kind ≡ k) where
+  client-of : uses k CLIENT ≡ true → IsClient (st .who)
+  client-of u = who-client st e (rw q u)
+
+  server-of : uses k CLIENT ≡ false → uses k SERVER ≡ true → IsServer (st .who)
+  server-of u v = who-server st e (rw q u) (rw q v)
+
+-- Every accepted step is lawful.
+pub step-lawful : {w : World} → Sound w → (st : Step) (a : After) → step w st ≡ done a → Lawful w (a .world) (a .completed) (starter st) (st .kind)
+unfolding step perform uses
+step-lawful {w} h st a e =
+    let (f, e1) = passed _ _ _ _ e in
+    go f (eqb (st .kind) 1) (eqb (st .kind) 2) (eqb (st .kind) 3) (eqb (st .kind) 4) (eqb (st .kind) 5) (eqb (st .kind) 6) refl refl refl refl refl refl e1
+  where
+    as-step : (x : ℕ) → starter st ≡ x → Lawful w (a .world) (a .completed) x (st .kind) → Lawful w (a .world) (a .completed) (starter st) (st .kind)
+    as-step x q l = rw q l
+
+    none : eqb (st .kind) 1 ≡ false → eqb (st .kind) 2 ≡ false → starter st ≡ 0
+    none p q = rw (p, q) refl
+
+    go : fieldsFit st ≡ true → (b1 b2 b3 b4 b5 b6 : Bool) → eqb (st .kind) 1 ≡ b1 → eqb (st .kind) 2 ≡ b2 → eqb (st .kind) 3 ≡ b3 → eqb (st .kind) 4 ≡ b4 → eqb (st .kind) 5 ≡ b5 → eqb (st .kind) 6 ≡ b6
+        → if b1 (begins w (st .who) WRITES (st .value)) (if b2 (begins w (st .who) READS 0) (if b3 (deliver w (st .who) (st .message .0)) (if b4 (take w (st .message .0))
+        (if b5 (fault w (st .who)) (if b6 (lie w (st .who) (st .view .0) (st .message .0) (st .source .0)) (newView w (record { members = st .value; f = st .f }))))))) ≡ done a
+        → Lawful w (a .world) (a .completed) (starter st) (st .kind)
+    go f true b2 b3 b4 b5 b6 e1 e2 e3 e4 e5 e6 e =
+        as-step (st .who) (rw e1 refl) (rw (eqb-true (st .kind) 1 e1) (begins-lawful h (client-of st 1 f (eqb-true _ _ e1) refl) WRITES (st .value) a e))
+    go f false true b3 b4 b5 b6 e1 e2 e3 e4 e5 e6 e =
+        as-step (st .who) (rw (e1, e2) refl) (rw (eqb-true (st .kind) 2 e2) (begins-lawful h (client-of st 2 f (eqb-true _ _ e2) refl) READS 0 a e))
+    go f false false true b4 b5 b6 e1 e2 e3 e4 e5 e6 e =
+        as-step 0 (none e1 e2) (deliver-lawful h (st .who) (st .message .0) (server-of st 3 f (eqb-true _ _ e3) refl refl) a e (st .kind))
+    go f false false false true b5 b6 e1 e2 e3 e4 e5 e6 e = as-step 0 (none e1 e2) (take-lawful h (st .message .0) a e (st .kind))
+    go f false false false false true b6 e1 e2 e3 e4 e5 e6 e =
+        as-step 0 (none e1 e2) (fault-lawful h (st .who) (server-of st 5 f (eqb-true _ _ e5) refl refl) a e (st .kind))
+    go f false false false false false true e1 e2 e3 e4 e5 e6 e =
+        as-step 0 (none e1 e2) (lie-lawful h (st .who) (st .view .0) (st .message .0) (st .source .0) a e (st .kind))
+    go f false false false false false false e1 e2 e3 e4 e5 e6 e =
+        as-step 0 (none e1 e2) (newView-lawful h (record { members = st .value; f = st .f }) a e (st .kind))
