@@ -16,9 +16,9 @@ pub record Operation : Type 0 where
   pub entry : Option Entry
 
 -- x stands in a list; x stands before y in it; no two places of it hold one operation
-pub data In (x : Operation) : List Operation → Type 0 where
-  here : {y : Operation} {l : List Operation} → y ≡ x → In x (y ∷ l)
-  there : {y : Operation} {l : List Operation} → In x l → In x (y ∷ l)
+pub data In {A : Type 0} (x : A) : List A → Type 0 where
+  here : {y : A} {l : List A} → y ≡ x → In x (y ∷ l)
+  there : {y : A} {l : List A} → In x l → In x (y ∷ l)
 
 pub data Before (x y : Operation) : List Operation → Type 0 where
   now : {z : Operation} {l : List Operation} → z ≡ x → In y l → Before x y (z ∷ l)

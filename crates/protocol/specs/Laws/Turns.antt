@@ -20,7 +20,7 @@ use Rattle.protocol.specs.Clients.{WRITES, READS, number, isIdle, reques
 use Rattle.protocol.specs.Worlds.{World, noClient, view, server, client, message, newest, present, room, withClient, withView, withMessage, withAdministrator, send, nextNumber}
 use Rattle.protocol.specs.Chains.{enough, shown}
 use Rattle.protocol.specs.Steps.{After, moved, request, begins, link, open?, takenWith, closes, starts, takes, take, newView, deliver, fault, lie, fieldsFit, CLIENT, SERVER, uses, field, perform, step}
-use Rattle.protocol.specs.Laws.Tests.{and-left, and-right, by-test, by-bool, clash, within-true, Went, went}
+use Rattle.protocol.specs.Laws.Tests.{and-left, and-right, or-cases, by-test, by-bool, clash, within-true, Went, went}
 use Rattle.protocol.specs.Laws.Worlds.{content, sent, sent-link, client-same, client-other, view-same, view-other, length-replace}
 use Rattle.protocol.specs.Laws.Change.{Votes, To, Chosen, Sent, Asked, Started, Closed, Kept, Acted, same, began, wrote, ended, Writer, New, Posted, none as unsent, Change, Moved}
 use Rattle.protocol.specs.Laws.Sound.{Mail, Sized, Sound, Answer, mail-same, mail-link, sized-same, sound-send, Taking, close-votes, close-chosen, link-count}
@@ -547,3 +547,14 @@ step-lawful {w} h st a e =
         as-step 0 (none e1 e2) (lie-lawful h (st .who) (st .view .0) (st .message .0) (st .source .0) a e (st .kind))
     go f false false false false false false e1 e2 e3 e4 e5 e6 e =
         as-step 0 (none e1 e2) (newView-lawful h (record { members = st .value; f = st .f }) a e (st .kind))
+
+-- a step that begins an operation names its client
+pub step-starter : (w : World) (st : Step) (a : After) → step w st ≡ done a → (eqb (st .kind) WRITES || eqb (st .kind) READS) ≡ true → 1 ≤ st .who
+unfolding step uses
+step-starter w st a e t =
+    let (f, e1) = passed _ _ _ _ e in
+    go f (or-cases _ _ t)
+  where
+    go : fieldsFit st ≡ true → (eqb (st .kind) WRITES ≡ true) ⊎ (eqb (st .kind) READS ≡ true) → 1 ≤ st .who
+    go f (inl q) = client-of st 1 f (eqb-true _ _ q) refl .low
+    go f (inr q) = client-of st 2 f (eqb-true _ _ q) refl .low

@@ -1,0 +1,195 @@
+-- The operations of a run and the worlds they meet: what each one has sent, seen and made sure of. Assumes nothing.
+use Prim.Native.Nat.{ℕ, zero, suc, _+_, _≤_, _<_}
+use native.Mathlib.Nat.{le-refl}
+use native.Mathlib.Omega.{arith}
+use mathlib.Core.Bool.{Bool, true, false, _&&_, _||_}
+use mathlib.Core.Path.{_≡_, refl, sym, ap, subst, _∙_}
+use mathlib.Core.Logic.{_⊎_, inl, inr}
+use mathlib.Core.List.{List, [], _∷_, _++_, map}
+use lib.Dec.{eqb}
+use borrow.Author.Tests.{eqb-true, eqb-false, eq-eqb, ne-eqb}
+use Rattle.protocol.specs.declared.MessageNumber.{MessageNumber}
+use Rattle.protocol.specs.declared.Entry.{Entry}
+use Rattle.protocol.specs.declared.Client.{Client}
+use Rattle.protocol.specs.declared.Message.{Message}
+use Rattle.protocol.specs.declared.Phase.{Phase}
+use Rattle.protocol.specs.declared.Phase.the-variants.{Idle, Reading, Writing}
+use Rattle.protocol.specs.Tools.{if}
+use Rattle.protocol.specs.Sizes.{readSize, writeSize}
+use Rattle.protocol.specs.Entries.{empty, entry, countOf, writerOf}
+use Rattle.protocol.specs.Servers.{WRITE, END, ANSWER}
+use Rattle.protocol.specs.Clients.{WRITES, READS, number, isIdle, toWrite}
+use Rattle.protocol.specs.Worlds.{World, view, server, client, newest}
+use Rattle.protocol.specs.Consistent.{In, here, there}
+use Rattle.protocol.specs.Runs.{Tracked, unfinished, sentWrite, tracked}
+use Rattle.protocol.specs.Laws.Tests.{clash, last-or}
+use Rattle.protocol.specs.Laws.Worlds.{sent}
+use Rattle.protocol.specs.Laws.Entries.{_≼_, ≼-refl, ≼-trans}
+use Rattle.protocol.specs.Laws.Change.{lying, Votes, To, Chosen, Closed, Kept, Acted, same, began, wrote, ended, Writer, New, Posted, none, one, Change, Moved}
+use Rattle.agreement.specs.Lists.{Image, in-map, map-in, in-append, in-left, in-right, no-member, Rising, empty as nobody, next, rising-append, rising-map}
+use Rattle.agreement.specs.Invariants.{IsAnswer, Fair, Origin, blank, from, Inv, inv-on, grown, raised, votes-on, fair-back}
+use Rattle.agreement.specs.Carried.{Holds, Held, Seen, Read}
+
+-- H2: an operation whose WRITE is sent has seen enough answers to its READ; it carries the chosen entry, or one with a count
+-- above it and the client's own number
+pub record Wrote (w : World) (who kind read write : ℕ) : Type 0 where
+  pub after : read < write
+  pub below : write ≤ w .used
+  pub is : sent w write .kind ≡ WRITE
+  pub chosen : Entry
+  pub seen : Read w chosen read
+  pub origin : Origin w write chosen
+  pub back : kind ≡ READS → sent w write .entry ≡ chosen
+  pub above : kind ≡ WRITES → countOf chosen < countOf (sent w write .entry)
+  pub own : kind ≡ WRITES → writerOf (sent w write .entry) ≡ who
+
+-- H3: an ended operation made sure of its entry before any later one began to read
+pub record Done (w : World) (l : List Tracked) (o : Tracked) : Type 0 where
+  pub wrote : 1 ≤ o .write
+  pub entry : o .entry ≡ sent w (o .write) .entry
+  pub bound : ℕ
+  pub below : bound ≤ w .used
+  pub held : Held w (o .entry) bound
+  pub later : (x : Tracked) → In x l → o .end < x .begin → bound < x .read
+
+-- H1: an open phase is that of its client's open operation
+pub data Open (w : World) (who read write : ℕ) : Type 0 where
+  reading : client w who .phase ≡ Reading (number read) → write ≡ 0 → Open w who read write
+  writing : client w who .phase ≡ Writing (number write) → 1 ≤ write → client w who .entry ≡ sent w write .entry → Open w who read write
+
+pub record Fits (w : World) (place : ℕ) (l : List Tracked) (o : Tracked) : Type 0 where
+  pub low : 1 ≤ o .client
+  pub kind : (o .kind ≡ WRITES) ⊎ (o .kind ≡ READS)
+  pub read : o .read ≤ w .used
+  pub began : o .begin < place
+  pub ends : o .end < place
+  pub spans : 1 ≤ o .end → o .begin < o .end
+  pub wrote : 1 ≤ o .write → Wrote w (o .client) (o .kind) (o .read) (o .write)
+  pub phase : o .end ≡ 0 → Open w (o .client) (o .read) (o .write)
+  pub alike : o .end ≡ 0 → client w (o .client) .kind ≡ o .kind
+  pub done : 1 ≤ o .end → Done w l o
+
+-- operations in the order of their beginning; those of one client do not overlap
+pub record Earlier (a b : Tracked) : Type 0 where
+  pub read : a .read < b .read
+  pub begin : a .begin < b .begin
+  pub ended : a .client ≡ b .client → (1 ≤ a .end) × (a .end < b .begin)
+
+-- an operation of the list of which P holds
+pub record Some (l : List Tracked) (P : Tracked → Type 0) : Type 0 where
+  pub of : Tracked
+  pub member : In of l
+  pub has : P of
+
+pub record Story (w : World) (place : ℕ) (l : List Tracked) : Type 0 where
+  pub fits : (o : Tracked) → In o l → Fits w place l o
+  pub order : Rising Earlier l
+  pub opener : (c : ℕ) → 1 ≤ c → isIdle (client w c .phase) ≡ false → Some l (λ o. (o .client ≡ c) × (o .end ≡ 0))
+  pub writer : (j : ℕ) → 1 ≤ j → j ≤ w .used → sent w j .kind ≡ WRITE → Some l (λ o. o .write ≡ j)
+
+-- ---- what a client writes
+
+toWrite-read : (a : Client) (i : ℕ) (e : Entry) → a .kind ≡ READS → toWrite a i e ≡ e
+unfolding toWrite
+toWrite-read a i e k = rw k refl
+
+toWrite-write : (a : Client) (i : ℕ) (e : Entry) → a .kind ≡ WRITES → toWrite a i e ≡ entry (countOf e + 1) i (a .entry .value)
+unfolding toWrite
+toWrite-write a i e k = rw (eq-eqb _ _ k) refl
+
+-- ---- what is known of an operation stays
+
+module _ {w v : World} (c : Change w v) (n : Inv w) where
+  asked-old : (k : ℕ) → k ≤ w .used → IsAnswer (sent w k) → sent v (sent v k .request .0) ≡ sent w (sent w k .request .0)
+  asked-old k l i = rw (c .old k l) (c .old (sent w k .request .0) (omega (arith, n .later k l i)))
+
+  pub held-on : {e : Entry} {b : ℕ} → Held w e b → Held v e b
+  held-on {e} {b} h =
+      record {
+        tag = h .tag;
+        low = h .low;
+        high = omega (arith, h .high, raised c);
+        votes = rw (c .views (h .tag) (h .high))
+          (votes-on c (λ s k l i x t p.
+            record { before = p .before; other = rw (asked-old k l i) (p .other); shows = λ g. rw (c .old k l) (p .shows (c .grew s .fair (h .tag) g)) })
+          (h .votes));
+      }
+
+  read-on : {e : Entry} {b : ℕ} → Read w e b → Read v e b
+  read-on h =
+      record {
+        tag = h .tag;
+        low = h .low;
+        high = omega (arith, h .high, raised c);
+        votes = rw (c .views (h .tag) (h .high)) (votes-on c (λ s k l i x t p. record { after = p .after; covered = rw (c .old k l) (p .covered) }) (h .votes));
+      }
+
+  origin-on : {j : ℕ} {e : Entry} → j ≤ w .used → Origin w j e → Origin v j e
+  origin-on l (blank e) = blank e
+  origin-on l (from k h i e) = let q = c .old k (omega arith) in from k h (rw q i) (rw q e)
+
+  pub wrote-on : {who kind read write : ℕ} → Wrote w who kind read write → Wrote v who kind read write
+  wrote-on {write} h =
+      let e : sent v write ≡ sent w write = c .old write (h .below) in
+      record {
+        after = h .after;
+        below = omega (arith, h .below, grown c);
+        is = rw e (h .is);
+        chosen = h .chosen;
+        seen = read-on (h .seen);
+        origin = origin-on (h .below) (h .origin);
+        back = rw e (h .back);
+        above = rw e (h .above);
+        own = rw e (h .own);
+      }
+
+  later-origin : {a b : ℕ} {e : Entry} → a ≤ b → Origin v a e → Origin v b e
+  later-origin l (blank e) = blank e
+  later-origin l (from k h i e) = from k (omega arith) i e
+
+  -- a READ phase closed
+  read-new : {i r : ℕ} (x : Closed w v i r) → 1 ≤ x .tag → x .tag ≤ newest w → Read v (x .entry) r
+  read-new x l u =
+      record {
+        tag = x .tag;
+        low = l;
+        high = omega (arith, raised c);
+        votes = rw (c .views (x .tag) u)
+          (votes-on c (λ s k h i z t p. record { after = omega (arith, n .later k h i, p .request); covered = rw (c .old k h) (p .covered) }) (x .votes));
+      }
+
+  pub wrote-new : {i r : ℕ} → v .used ≡ w .used + 1 → Closed w v i r → r ≤ w .used → (kind : ℕ) → client w i .kind ≡ kind → Wrote v i kind r (v .used)
+  wrote-new {i} {r} u x l kind t =
+      let y = n .tagged (x .chosen .at) (x .chosen .below) (x .chosen .is) in
+      record {
+        after = omega arith;
+        below = le-refl _;
+        is = x .writes;
+        chosen = x .entry;
+        seen = read-new x (omega (arith, y .low, x .chosen .tag)) (omega (arith, y .high, x .chosen .tag));
+        origin = later-origin (omega (arith, x .chosen .below)) (origin-on (x .chosen .below) (subst (Origin w (x .chosen .at)) (x .chosen .entry) (n .shown (x .chosen .at) (x .chosen .below) (x .chosen .is))));
+        back = λ z. x .carries ∙ toWrite-read (client w i) i (x .entry) (t ∙ z);
+        above = λ z. rw (x .carries ∙ toWrite-write (client w i) i (x .entry) (t ∙ z)) (omega arith);
+        own = λ z. ap writerOf (x .carries ∙ toWrite-write (client w i) i (x .entry) (t ∙ z));
+      }
+
+  -- a WRITE phase closed
+  pub held-new : {r : ℕ} → Kept w r → r ≤ w .used → sent w r .kind ≡ WRITE → Held v (sent w r .entry) (v .used)
+  held-new {r} x l k =
+      let y = n .tagged (x .chosen .at) (x .chosen .below) (x .chosen .is) in
+      record {
+        tag = x .tag;
+        low = omega (arith, y .low, x .chosen .tag);
+        high = omega (arith, y .high, x .chosen .tag, raised c);
+        votes = rw (c .views (x .tag) (omega (arith, y .high, x .chosen .tag)))
+          (votes-on c (λ s j b i z t p.
+            record {
+              before = omega (arith, grown c);
+              other = rw (asked-old j b i, p .request, k) (λ e. apart e);
+              shows = λ g. rw (c .old j b) (rw (p .request) at (n .paid j b (record { is = i; good = rw (z, t) (c .grew s .fair (x .tag) g) }) (rw (p .request) k)));
+            })
+          (x .votes));
+      }
+    where
+      apart : WRITE ≡ END → ⊥
+      apart e = eqb-false WRITE END refl e

@@ -1,0 +1,376 @@
+-- Every step keeps what is known of the operations of a run. Assumes nothing.
+use Prim.Native.Nat.{ℕ, zero, suc, _+_, _≤_, _<_}
+use native.Mathlib.Nat.{le-refl}
+use native.Mathlib.Decide.{ℕ-discrete}
+use native.Mathlib.Omega.{arith}
+use mathlib.Core.Bool.{Bool, true, false, _&&_, _||_}
+use mathlib.Core.Path.{_≡_, refl, sym, ap, subst, _∙_}
+use mathlib.Core.Logic.{_⊎_, inl, inr}
+use mathlib.Core.List.{List, [], _∷_, _++_, map}
+use lib.Dec.{eqb}
+use borrow.Author.Tests.{eqb-true, eqb-false, eq-eqb, ne-eqb}
+use Rattle.protocol.specs.declared.MessageNumber.{MessageNumber}
+use Rattle.protocol.specs.declared.Entry.{Entry}
+use Rattle.protocol.specs.declared.Client.{Client}
+use Rattle.protocol.specs.declared.Message.{Message}
+use Rattle.protocol.specs.declared.Phase.{Phase}
+use Rattle.protocol.specs.declared.Phase.the-variants.{Idle, Reading, Writing}
+use Rattle.protocol.specs.Tools.{if}
+use Rattle.protocol.specs.Entries.{empty}
+use Rattle.protocol.specs.Servers.{WRITE, ANSWER}
+use Rattle.protocol.specs.Clients.{WRITES, READS, number, isIdle}
+use Rattle.protocol.specs.Worlds.{World, client}
+use Rattle.protocol.specs.Consistent.{In, here, there}
+use Rattle.protocol.specs.Runs.{Tracked, unfinished, sentWrite, tracked}
+use Rattle.protocol.specs.Laws.Tests.{by-test, clash, last-or}
+use Rattle.protocol.specs.Laws.Worlds.{sent}
+use Rattle.protocol.specs.Laws.Change.{Acted, same, began, wrote, ended, Writer, New, Posted, none, one, Change, Moved}
+use Rattle.agreement.specs.Lists.{Image, in-map, map-in, in-append, in-left, in-right, no-member, Rising, empty as nobody, next, rising-append, rising-map}
+use Rattle.agreement.specs.Invariants.{Inv, grown}
+use Rattle.agreement.specs.Carried.{Held}
+use Rattle.agreement.specs.Operations.{Wrote, Done, Open, reading, writing, Fits, Earlier, Some, Story, held-on, wrote-on, wrote-new, held-new}
+
+-- ---- an operation after a step
+
+-- o with another end, WRITE and entry
+abbrev turned : Tracked → ℕ → ℕ → Entry → Tracked
+turned o e j x = record { client = o .client; kind = o .kind; begin = o .begin; end = e; read = o .read; write = j; entry = x }
+
+module _ (v : World) (i d : ℕ) (o : Tracked) where
+  tracked-client : tracked v i d o .client ≡ o .client
+  unfolding tracked
+  tracked-client = by-test (unfinished o) (λ e. rw e refl) (λ e. rw e refl)
+
+  tracked-begin : tracked v i d o .begin ≡ o .begin
+  unfolding tracked
+  tracked-begin = by-test (unfinished o) (λ e. rw e refl) (λ e. rw e refl)
+
+  tracked-read : tracked v i d o .read ≡ o .read
+  unfolding tracked
+  tracked-read = by-test (unfinished o) (λ e. rw e refl) (λ e. rw e refl)
+
+  tracked-done : 1 ≤ o .end → tracked v i d o ≡ o
+  unfolding tracked
+  tracked-done h = rw (ne-eqb (o .end) 0 (λ e. omega arith)) refl
+
+  tracked-write : o .end ≡ 0 → tracked v i d o .write ≡ sentWrite (client v (o .client) .phase) (o .write)
+  unfolding tracked
+  tracked-write h = rw (eq-eqb (o .end) 0 h) refl
+
+  tracked-stays : o .end ≡ 0 → (d ≡ o .client → ⊥) → tracked v i d o ≡ turned o 0 (sentWrite (client v (o .client) .phase) (o .write)) empty
+  unfolding tracked
+  tracked-stays h n = rw (eq-eqb (o .end) 0 h, ne-eqb (o .client) d (λ e. n (sym e))) refl
+
+  tracked-ends : o .end ≡ 0 → d ≡ o .client → tracked v i d o ≡ turned o i (sentWrite (client v (o .client) .phase) (o .write)) (client v d .entry)
+  unfolding tracked
+  tracked-ends h n = rw (eq-eqb (o .end) 0 h, eq-eqb (o .client) d (sym n)) refl
+
+-- the operation that a step began, by client c
+pub record Fresh (w v : World) (place c kind : ℕ) (o : Tracked) : Type 0 where
+  pub client : o .client ≡ c
+  pub low : 1 ≤ c
+  pub kinds : (o .kind ≡ WRITES) ⊎ (o .kind ≡ READS)
+  pub same : o .kind ≡ kind
+  pub begin : o .begin ≡ place
+  pub end : o .end ≡ 0
+  pub read : o .read ≡ v .used
+  pub write : o .write ≡ 0
+
+-- the operations that a step of starter began: one or none
+pub record Newly (w v : World) (place starter kind : ℕ) (new : List Tracked) : Type 0 where
+  pub fresh : (o : Tracked) → In o new → Fresh w v place starter kind o
+  pub some : 1 ≤ starter → Some new (λ o. Unit {0})
+  pub order : Rising Earlier new
+
+module _ {w v : World} {place done starter kind : ℕ} {l new : List Tracked} (n : Inv w) (m : Moved w v done starter kind) (s : Story w place l) (f : Newly w v place starter kind new) (pos : 1 ≤ place) where
+  abbrev c : Change w v
+  c = m .change
+
+  abbrev tr : Tracked → Tracked
+  tr = tracked v place done
+
+  abbrev all : List Tracked
+  all = map tr l ++ new
+
+  -- a new operation finds its client idle, and its READ is the new message
+  fresh-used : (o : Tracked) → In o new → v .used ≡ w .used + 1
+  fresh-used o i = go (m .acted starter (f .fresh o i .low))
+    where
+      go : Acted w v done starter kind starter → v .used ≡ w .used + 1
+      go (same e p q) = absurd (q refl)
+      go (began e p u h k j) = u
+      go (wrote r p q u h k j y x) = u
+      go (ended r p q h k j x) = absurd (q refl)
+
+  -- what is known of those that began later
+  later-on : (o : Tracked) (bound : ℕ) → bound ≤ w .used → o .end < place → ((x : Tracked) → In x l → o .end < x .begin → bound < x .read) → (x : Tracked) → In x all → o .end < x .begin → bound < x .read
+  later-on o bound b e h x i = go (in-append (map tr l) new i)
+    where
+      go : In x (map tr l) ⊎ In x new → o .end < x .begin → bound < x .read
+      go (inl j) =
+          let r = in-map tr l j in
+          rw (← r .is) (rw (tracked-begin v place done (r .of), tracked-read v place done (r .of)) (h (r .of) (r .member)))
+      go (inr j) = λ _. omega (arith, f .fresh x j .read, fresh-used x j)
+
+  fits-done : (o : Tracked) → In o l → 1 ≤ o .end → Fits v (place + 1) all (tr o)
+  fits-done o i h =
+      let a = s .fits o i in
+      let d = a .done h in
+      rw (tracked-done v place done o h)
+      (record {
+        low = a .low;
+        kind = a .kind;
+        read = omega (arith, a .read, grown c);
+        began = omega (arith, a .began);
+        ends = omega (arith, a .ends);
+        spans = a .spans;
+        wrote = λ z. wrote-on c n (a .wrote z);
+        phase = λ z. absurd (omega arith);
+        alike = λ z. absurd (omega arith);
+        done = λ z. record {
+          wrote = d .wrote;
+          entry = d .entry ∙ sym (ap (λ (x : Message). x .entry) (c .old (o .write) (a .wrote (d .wrote) .below)));
+          bound = d .bound;
+          below = omega (arith, d .below, grown c);
+          held = held-on c n (d .held);
+          later = later-on o (d .bound) (d .below) (a .ends) (d .later);
+        };
+      })
+
+  -- ---- an open operation
+
+  sent-same : (o : Tracked) → Open w (o .client) (o .read) (o .write) → client v (o .client) ≡ client w (o .client) → sentWrite (client v (o .client) .phase) (o .write) ≡ o .write
+  sent-same o (reading p z) e = ap (λ (x : Client). sentWrite (x .phase) (o .write)) e ∙ ap (λ (x : Phase). sentWrite x (o .write)) p
+  sent-same o (writing p z x) e = ap (λ (x : Client). sentWrite (x .phase) (o .write)) e ∙ ap (λ (x : Phase). sentWrite x (o .write)) p
+
+  open-same : {who r j : ℕ} → (1 ≤ j → j ≤ w .used) → Open w who r j → client v who ≡ client w who → Open v who r j
+  open-same b (reading p z) e = reading (ap (λ (x : Client). x .phase) e ∙ p) z
+  open-same {who} {r} {j} b (writing p z x) e =
+      writing (ap (λ (x : Client). x .phase) e ∙ p) z (ap (λ (x : Client). x .entry) e ∙ x ∙ sym (ap (λ (x : Message). x .entry) (c .old j (b z))))
+
+  fits-same : (o : Tracked) → In o l → o .end ≡ 0 → (done ≡ o .client → ⊥) → client v (o .client) ≡ client w (o .client) → Fits v (place + 1) all (tr o)
+  fits-same o i h d e =
+      let a = s .fits o i in
+      rw (tracked-stays v place done o h d, sent-same o (a .phase h) e)
+      (record {
+        low = a .low;
+        kind = a .kind;
+        read = omega (arith, a .read, grown c);
+        began = omega (arith, a .began);
+        ends = omega arith;
+        spans = λ z. absurd (omega arith);
+        wrote = λ z. wrote-on c n (a .wrote z);
+        phase = λ z. open-same (λ y. a .wrote y .below) (a .phase h) e;
+        alike = λ z. ap (λ (x : Client). x .kind) e ∙ a .alike h;
+        done = λ z. absurd (omega arith);
+      })
+
+  number-is : {a b : ℕ} → number a ≡ number b → a ≡ b
+  number-is e = ap (λ (x : MessageNumber). x .0) e
+
+  was-reading : {who r j q : ℕ} → Open w who r j → client w who .phase ≡ Reading (number q) → r ≡ q
+  was-reading (reading p z) e = number-is (cc)
+  was-reading (writing p z x) e = let y : _≡_ {A = ℕ} 0 1 = cc in absurd (omega arith)
+
+  was-writing : {who r j q : ℕ} → Open w who r j → client w who .phase ≡ Writing (number q) → (j ≡ q) × (1 ≤ j) × (client w who .entry ≡ sent w j .entry)
+  was-writing (reading p z) e = let y : _≡_ {A = ℕ} 0 1 = cc in absurd (omega arith)
+  was-writing (writing p z x) e = (number-is (cc), z, x)
+
+  never-idle : {who r j : ℕ} {A : Type 0} → Open w who r j → client w who .phase ≡ Idle → A
+  never-idle (reading p z) e = let y : _≡_ {A = ℕ} 0 1 = cc in absurd (omega arith)
+  never-idle (writing p z x) e = let y : _≡_ {A = ℕ} 0 1 = cc in absurd (omega arith)
+
+  fits-on : (o : Tracked) → In o l → Fits v (place + 1) all (tr o)
+  fits-on o i = by-end (ℕ-discrete (o .end) 0)
+    where
+      a : Fits w place l o
+      a = s .fits o i
+
+      go : o .end ≡ 0 → Acted w v done starter kind (o .client) → Fits v (place + 1) all (tr o)
+      go h (same e p q) = fits-same o i h p e
+      go h (began e p u y k j) = never-idle (a .phase h) y
+      go h (wrote r p q u y k j z x) =
+          let b : o .read ≡ r = was-reading (a .phase h) y in
+          rw (tracked-stays v place done o h p, ap (λ (x : Phase). sentWrite x (o .write)) k)
+          (record {
+            low = a .low;
+            kind = a .kind;
+            read = omega (arith, a .read, grown c);
+            began = omega (arith, a .began);
+            ends = omega arith;
+            spans = λ z. absurd (omega arith);
+            wrote = λ _. subst (λ (t : ℕ). Wrote v (o .client) (o .kind) t (v .used)) (sym b) (wrote-new c n u x (omega (arith, a .read)) (o .kind) (a .alike h));
+            phase = λ _. writing k (omega arith) z;
+            alike = λ _. j ∙ a .alike h;
+            done = λ t. absurd (omega arith);
+          })
+      go h (ended r p q y k j x) =
+          let (b, t, e) = was-writing (a .phase h) y in
+          let g = a .wrote t in
+          let old = ap (λ (x : Message). x .entry) (c .old (o .write) (g .below)) in
+          let is : client v done .entry ≡ sent w (o .write) .entry = ap (λ (d : ℕ). client v d .entry) p ∙ j ∙ e in
+          rw (tracked-ends v place done o h p, ap (λ (x : Phase). sentWrite x (o .write)) k)
+          (record {
+            low = a .low;
+            kind = a .kind;
+            read = omega (arith, a .read, grown c);
+            began = omega (arith, a .began);
+            ends = omega arith;
+            spans = λ _. a .began;
+            wrote = λ _. wrote-on c n g;
+            phase = λ z. absurd (omega arith);
+            alike = λ z. absurd (omega arith);
+            done = λ _. record {
+              wrote = t;
+              entry = is ∙ sym old;
+              bound = v .used;
+              below = le-refl _;
+              held = subst (λ (x : Entry). Held v x (v .used)) (ap (λ (q : ℕ). sent w q .entry) (sym b) ∙ sym is) (held-new c n x (omega (arith, g .below)) (ap (λ (q : ℕ). sent w q .kind) (sym b) ∙ g .is));
+              later = λ x i z. absurd (none-later x i z);
+            };
+          })
+        where
+          none-later : (x : Tracked) → In x all → place < x .begin → ⊥
+          none-later x i z = at (in-append (map tr l) new i)
+            where
+              at : In x (map tr l) ⊎ In x new → ⊥
+              at (inl j) = let r = in-map tr l j in omega (arith, s .fits (r .of) (r .member) .began, tracked-begin v place done (r .of), ap (λ (t : Tracked). t .begin) (r .is))
+              at (inr j) = omega (arith, f .fresh x j .begin)
+
+      by-end : Dec (o .end ≡ 0) → Fits v (place + 1) all (tr o)
+      by-end (yes h) = go h (m .acted (o .client) (a .low))
+      by-end (no h) = fits-done o i (omega arith)
+
+  -- ---- a new operation
+
+  -- its client was idle, and reads now
+  started : 1 ≤ starter → (client w starter .phase ≡ Idle) × (client v starter .phase ≡ Reading (number (v .used))) × (client v starter .kind ≡ kind)
+  started h = go (m .acted starter h)
+    where
+      go : Acted w v done starter kind starter → (client w starter .phase ≡ Idle) × (client v starter .phase ≡ Reading (number (v .used))) × (client v starter .kind ≡ kind)
+      go (same e p q) = absurd (q refl)
+      go (began e p u y k j) = (y, k, j)
+      go (wrote r p q u y k j z x) = absurd (q refl)
+      go (ended r p q y k j x) = absurd (q refl)
+
+  fits-new : (o : Tracked) → In o new → Fits v (place + 1) all o
+  fits-new o i =
+      let a = f .fresh o i in
+      let (y, k, j) = started (a .low) in
+      record {
+        low = omega (arith, a .low, a .client);
+        kind = a .kinds;
+        read = omega (arith, a .read);
+        began = omega (arith, a .begin);
+        ends = omega (arith, a .end);
+        spans = λ z. absurd (omega (arith, a .end));
+        wrote = λ z. absurd (omega (arith, a .write));
+        phase = λ _. reading (ap (λ (x : ℕ). client v x .phase) (a .client) ∙ k ∙ ap (λ (x : ℕ). Reading (number x)) (sym (a .read))) (a .write);
+        alike = λ _. ap (λ (x : ℕ). client v x .kind) (a .client) ∙ j ∙ sym (a .same);
+        done = λ z. absurd (omega (arith, a .end));
+      }
+
+  fits-all : (o : Tracked) → In o all → Fits v (place + 1) all o
+  fits-all o i = go (in-append (map tr l) new i)
+    where
+      go : In o (map tr l) ⊎ In o new → Fits v (place + 1) all o
+      go (inl j) = let r = in-map tr l j in subst (Fits v (place + 1) all) (r .is) (fits-on (r .of) (r .member))
+      go (inr j) = fits-new o j
+
+  -- ---- the order of beginning
+
+  order-old : (a b : Tracked) → In a l → In b l → Earlier a b → Earlier (tr a) (tr b)
+  order-old a b i j e =
+      record {
+        read = rw (tracked-read v place done a, tracked-read v place done b) (e .read);
+        begin = rw (tracked-begin v place done a, tracked-begin v place done b) (e .begin);
+        ended = λ q.
+          let (h, k) = e .ended (sym (tracked-client v place done a) ∙ q ∙ tracked-client v place done b) in
+          rw (tracked-done v place done a h, tracked-begin v place done b) (h, k);
+      }
+
+  order-new : (x y : Tracked) → In x (map tr l) → In y new → Earlier x y
+  order-new x y i j = let r = in-map tr l i in subst (λ (z : Tracked). Earlier z y) (r .is) (go (r .of) (s .fits (r .of) (r .member)) (ℕ-discrete (r .of .end) 0))
+    where
+      b : Fresh w v place starter kind y
+      b = f .fresh y j
+
+      go : (a : Tracked) → Fits w place l a → Dec (a .end ≡ 0) → Earlier (tr a) y
+      go a g (yes h) =
+          record {
+            read = rw (tracked-read v place done a) (omega (arith, g .read, b .read, fresh-used y j));
+            begin = rw (tracked-begin v place done a) (omega (arith, g .began, b .begin));
+            ended = λ q. never-idle (g .phase h) (ap (λ (x : ℕ). client w x .phase) (sym (tracked-client v place done a) ∙ q ∙ b .client) ∙ started (b .low) .0);
+          }
+      go a g (no h) =
+          let k : 1 ≤ a .end = omega arith in
+          rw (tracked-done v place done a k)
+          (record { read = omega (arith, g .read, b .read, fresh-used y j); begin = omega (arith, g .began, b .begin); ended = λ q. (k, omega (arith, g .ends, b .begin)) })
+
+  order-all : Rising Earlier all
+  order-all = rising-append (map tr l) new (rising-map tr l order-old (s .order)) (f .order) order-new
+
+  -- ---- who is open, and who wrote
+
+  found : {P Q : Tracked → Type 0} → ((o : Tracked) → In o l → P o → Q (tr o)) → Some l P → Some all Q
+  found g x = record { of = tr (x .of); member = in-left (map tr l) new (map-in tr l (x .member)); has = g (x .of) (x .member) (x .has) }
+
+  stays-open : (x : ℕ) → (done ≡ x → ⊥) → (o : Tracked) → In o l → (o .client ≡ x) × (o .end ≡ 0) → (tr o .client ≡ x) × (tr o .end ≡ 0)
+  stays-open x d o i (e, h) = (tracked-client v place done o ∙ e, ap (λ (t : Tracked). t .end) (tracked-stays v place done o h (λ q. d (q ∙ e))))
+
+  opener-on : (x : ℕ) → 1 ≤ x → isIdle (client v x .phase) ≡ false → Some all (λ o. (o .client ≡ x) × (o .end ≡ 0))
+  opener-on x h k = go (m .acted x h)
+    where
+      go : Acted w v done starter kind x → Some all (λ o. (o .client ≡ x) × (o .end ≡ 0))
+      go (same e p q) = found (stays-open x p) (s .opener x h (sym (ap (λ (c : Client). isIdle (c .phase)) e) ∙ k))
+      go (began e p u y b j) =
+          let a = f .some (omega arith) in
+          let g = f .fresh (a .of) (a .member) in
+          record { of = a .of; member = in-right (map tr l) new (a .member); has = (g .client ∙ e, g .end) }
+      go (wrote r p q u y b j z i) = found (stays-open x p) (s .opener x h (ap isIdle y))
+      go (ended r p q y b j i) = clash (ap isIdle b) k
+
+  writes-on : (j : ℕ) → 1 ≤ j → (o : Tracked) → In o l → o .write ≡ j → tr o .write ≡ j
+  writes-on j h o i e = by-end (ℕ-discrete (o .end) 0)
+    where
+      a : Fits w place l o
+      a = s .fits o i
+
+      still : o .end ≡ 0 → sentWrite (client v (o .client) .phase) (o .write) ≡ o .write → tr o .write ≡ j
+      still z p = tracked-write v place done o z ∙ p ∙ e
+
+      go : o .end ≡ 0 → Acted w v done starter kind (o .client) → tr o .write ≡ j
+      go z (same q p t) = still z (sent-same o (a .phase z) q)
+      go z (began q p u y k b) = never-idle (a .phase z) y
+      go z (wrote r p q u y k b t x) = absurd (reads (a .phase z))
+        where
+          reads : Open w (o .client) (o .read) (o .write) → ⊥
+          reads (reading p z) = omega arith
+          reads (writing p z x) = let n : _≡_ {A = ℕ} 0 1 = cc in omega arith
+      go z (ended r p q y k b x) = still z (ap (λ (x : Phase). sentWrite x (o .write)) k)
+
+      by-end : Dec (o .end ≡ 0) → tr o .write ≡ j
+      by-end (yes z) = go z (m .acted (o .client) (a .low))
+      by-end (no z) = ap (λ (t : Tracked). t .write) (tracked-done v place done o (omega arith)) ∙ e
+
+  writer-on : (j : ℕ) → 1 ≤ j → j ≤ v .used → sent v j .kind ≡ WRITE → Some all (λ o. o .write ≡ j)
+  writer-on j h k e = go (c .posted)
+    where
+      past : j ≤ w .used → Some all (λ o. o .write ≡ j)
+      past u = found (writes-on j h) (s .writer j h u (sym (ap (λ (x : Message). x .kind) (c .old j u)) ∙ e))
+
+      new-write : j ≡ v .used → Writer w v (sent v (v .used)) → Some all (λ o. o .write ≡ j)
+      new-write q x =
+          found (λ o i (y, z). tracked-write v place done o z ∙ ap (λ (p : ℕ). sentWrite (client v p .phase) (o .write)) y ∙ ap (λ (p : Phase). sentWrite p (o .write)) (x .writing) ∙ sym q)
+          (s .opener (sent v (v .used) .sender) (x .low) (ap isIdle (x .reading)))
+
+      go : Posted w v → Some all (λ o. o .write ≡ j)
+      go (none q t) = past (omega arith)
+      go (one q x t) = at (last-or j (w .used) (omega arith))
+        where
+          at : (j ≡ suc (w .used)) ⊎ (j ≤ w .used) → Some all (λ o. o .write ≡ j)
+          at (inl b) = let g : j ≡ v .used = omega arith in new-write g (x .write (ap (λ (i : ℕ). sent v i .kind) (sym g) ∙ e))
+          at (inr b) = past b
+
+  pub story-on : Story v (place + 1) all
+  story-on = record { fits = fits-all; order = order-all; opener = opener-on; writer = writer-on }
