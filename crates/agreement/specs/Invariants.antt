@@ -87,6 +87,7 @@ pub record StartOf (w : World) (m : ℕ) : Type 0 where
 
 pub record Inv (w : World) : Type 0 where
   pub low : 1 ≤ newest w
+  pub first : sent w 0 .kind ≡ 0
   -- W1
   pub later : (k : ℕ) → k ≤ w .used → IsAnswer (sent w k) → sent w k .request .0 < k
   pub tagged : (k : ℕ) → k ≤ w .used → IsAnswer (sent w k) → Keyed w (sent w k .view .0) (sent w k .sender)
@@ -366,6 +367,7 @@ pub inv-on : {w v : World} → Change w v → Inv w → Inv v
 inv-on c n =
     record {
       low = low-on c n;
+      first = rw (c .old 0 (omega arith)) (n .first);
       later = later-on c n;
       tagged = tagged-on c n;
       keyed = keyed-all c n;

@@ -6,3 +6,7 @@ pub mod Operations
 pub mod Story
 pub mod Reached
 pub mod Sorting
+pub mod Precedence
+pub mod Legal
+pub mod Order
+pub mod Theorem

@@ -172,6 +172,7 @@ module _ (v : View) (z : sized v ≡ true) where
   fresh-inv =
       record {
         low = omega (arith, fresh-newest v);
+        first = ap (λ (m : Message). m .kind) (unsent v 0 (omega arith));
         later = λ k l i. no-kind k l i;
         tagged = λ k l i. no-kind k l i;
         keyed = fresh-keyed;
