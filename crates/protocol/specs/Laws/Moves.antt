@@ -147,7 +147,7 @@ module _ {w : World} (h : Sound w) {s : ℕ} (r : IsServer s) {b : Server} (g : 
 -- ---- deliver
 
 -- the ways in which a server serves the message m
-data Serving (a : Server) (m : Message) (member : Bool) (r : Reply) : Type 0 where
+pub data Serving (a : Server) (m : Message) (member : Bool) (r : Reply) : Type 0 where
   reads : m .kind ≡ READ → holds (a .keys) (a .view .0) ≡ true → r ≡ answering a a → Serving a m member r
   writes : m .kind ≡ WRITE → holds (a .keys) (a .view .0) ≡ true → r ≡ answering (keeping a (m .entry)) (keeping a (m .entry)) → Serving a m member r
   ends : m .kind ≡ END → a .faulty ≡ false → holds (a .keys) (a .view .0) ≡ true → r ≡ answering a (withoutKey a) → Serving a m member r
@@ -168,7 +168,7 @@ started a m member r k e =
     go true f i l e = let (p, e1) = passed _ _ _ _ e in gathers k i f (is-done e1)
     go false f i l e = joins k i l f (is-done e)
 
-serving : (a : Server) (m : Message) (member : Bool) (r : Reply) → serve a m member ≡ done r → Serving a m member r
+pub serving : (a : Server) (m : Message) (member : Bool) (r : Reply) → serve a m member ≡ done r → Serving a m member r
 unfolding serve
 serving a m member r e = let (p, e1) = passed _ _ _ _ e in first p (eqb (m .kind) START) refl e1
   where

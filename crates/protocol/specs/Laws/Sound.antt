@@ -146,26 +146,30 @@ pub link-count : (w : World) (k : ℕ) → length (link w k .messageList) ≡ le
 unfolding link withMessage
 link-count w k = simp length-set
 
-link-used : (w : World) (k : ℕ) → link w k .used ≡ w .used
+pub link-used : (w : World) (k : ℕ) → link w k .used ≡ w .used
 unfolding link withMessage
 link-used w k = refl
 
-link-other : (w : World) (k i : ℕ) → i ≢ k → i ≢ message w k .request .0 → message (link w k) i ≡ message w i
+pub link-other : (w : World) (k i : ℕ) → i ≢ k → i ≢ message w k .request .0 → message (link w k) i ≡ message w i
 unfolding link
 link-other w k i h n = message-other (withMessage w k _) (message w k .request .0) _ i n ∙ message-other w k _ i h
 
-link-answer : (w : World) (k : ℕ) → k ≢ message w k .request .0 → k < length (w .messageList) → message (link w k) k .next ≡ message w (message w k .request .0) .next
+pub link-answer : (w : World) (k : ℕ) → k ≢ message w k .request .0 → k < length (w .messageList) → message (link w k) k .next ≡ message w (message w k .request .0) .next
 unfolding link
 link-answer w k n h = rw (message-other (withMessage w k _) (message w k .request .0) _ k n, message-same w k _ h) refl
 
-link-request : (w : World) (k : ℕ) → message w k .request .0 < length (w .messageList) → message (link w k) (message w k .request .0) .next .0 ≡ k
+pub link-taken : (w : World) (k : ℕ) → k ≢ message w k .request .0 → k < length (w .messageList) → message (link w k) k .taken ≡ true
+unfolding link
+link-taken w k n h = rw (message-other (withMessage w k _) (message w k .request .0) _ k n, message-same w k _ h) refl
+
+pub link-request : (w : World) (k : ℕ) → message w k .request .0 < length (w .messageList) → message (link w k) (message w k .request .0) .next .0 ≡ k
 unfolding link withMessage
 link-request w k h = rw (message-same (withMessage w k _) (message w k .request .0) _ (length-with w k _ h)) refl
   where
     length-with : (w : World) (k : ℕ) (m : Message) {n : ℕ} → n < length (w .messageList) → n < length (withMessage w k m .messageList)
     length-with w k m l = simp length-set l
 
-not-answer : (k : ℕ) → isRequest k ≡ true → eqb k ANSWER ≡ false
+pub not-answer : (k : ℕ) → isRequest k ≡ true → eqb k ANSWER ≡ false
 not-answer k e = let (l, h) = within-true READ END k e in ne-eqb k ANSWER (λ q. omega arith)
 
 root-answer : (m : Message) (i : ℕ) → m .kind ≡ ANSWER → root m i ≡ m .request .0

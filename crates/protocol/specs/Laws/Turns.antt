@@ -511,10 +511,10 @@ who-server st e u v = let (l, k) = within-true 1 servers (st .who) (rw (u, v) at
 
 -- by the table
 module _ (st : Step) (k : ℕ) (e : fieldsFit st ≡ true) (q : st .kind ≡ k) where
-  client-of : uses k CLIENT ≡ true → IsClient (st .who)
+  pub client-of : uses k CLIENT ≡ true → IsClient (st .who)
   client-of u = who-client st e (rw q u)
 
-  server-of : uses k CLIENT ≡ false → uses k SERVER ≡ true → IsServer (st .who)
+  pub server-of : uses k CLIENT ≡ false → uses k SERVER ≡ true → IsServer (st .who)
   server-of u v = who-server st e (rw q u) (rw q v)
 
 -- Every accepted step is lawful.

@@ -50,7 +50,7 @@ pub message-other : (w : World) (n : ℕ) (m : Message) (i : ℕ) → i ≢ n �
 unfolding message withMessage
 message-other w n m i h = getD-set-other (w .messageList) n i m noMessage h
 
-message-out : (w : World) (n : ℕ) (m : Message) → length (w .messageList) ≤ n → message (withMessage w n m) n ≡ message w n
+pub message-out : (w : World) (n : ℕ) (m : Message) → length (w .messageList) ≤ n → message (withMessage w n m) n ≡ message w n
 unfolding message withMessage
 message-out w n m h = rw (set-out (w .messageList) n m h) refl
 

@@ -1,0 +1,197 @@
+-- Readable worlds by their clauses, and what each clause rests on. Assumes nothing.
+use Prim.Native.Nat.{ℕ, zero, suc, _+_, _^_, _≤_, _<_}
+use native.Mathlib.Nat.{le-refl}
+use native.Mathlib.Omega.{arith}
+use mathlib.Core.Bool.{Bool, true, false, not, _&&_, _||_}
+use mathlib.Core.Path.{_≡_, refl, sym, ap, subst, _∙_}
+use mathlib.Core.Logic.{_⊎_, inl, inr}
+use mathlib.Core.List.{List, [], _∷_}
+use lib.ListN.{length}
+use lib.Dec.{ltb, leb, eqb}
+use lib.Pow.{pow-mono}
+use borrow.Author.Tests.{ltb-true, leb-true, eqb-true, eqb-false, leb-false, lt-ltb, le-leb, eq-eqb, ne-eqb, not-true}
+use Rattle.protocol.specs.declared.ViewNumber.{ViewNumber}
+use Rattle.protocol.specs.declared.Entry.{Entry}
+use Rattle.protocol.specs.declared.Message.{Message}
+use Rattle.protocol.specs.declared.Client.{Client}
+use Rattle.protocol.specs.declared.Phase.{Phase}
+use Rattle.protocol.specs.declared.Phase.the-variants.{Idle, Reading, Writing}
+use Rattle.protocol.specs.declared.Ending.{Ending}
+use Rattle.protocol.specs.declared.Ending.the-variants.{Settled, EndSent}
+use Rattle.protocol.specs.Tools.{if, within, allTo, any, all}
+use Rattle.protocol.specs.Sizes.{clients, servers, views, messages}
+use Rattle.protocol.specs.Entries.{empty, same, entryFits}
+use Rattle.protocol.specs.Servers.{READ, WRITE, END, START, ANSWER, isRequest}
+use Rattle.protocol.specs.Clients.{WRITES, READS}
+use Rattle.protocol.specs.Worlds.{World, view, server, client, message, newest, present}
+use Rattle.protocol.specs.Chains.{follow, chain}
+use Rattle.protocol.specs.Readable.{shape, isSent, endingFits, headerFits, lastView, viewFits, serverFits, phaseFits, clientFits, senderFits, viewTagFits, requestFits, nextFits, entryZero, sentFits, zeroMessage, messageFits, takenAnswer, distinct, ends, chainFits, wellFormed}
+use Rattle.protocol.specs.Laws.Tests.{and-left, and-right, and-both, or-cases, by-test, by-bool, clash, last-or, within-true, allTo-at}
+use Rattle.protocol.specs.Laws.Worlds.{content, sent}
+
+pub all-to : (p : ℕ → Bool) (n : ℕ) → ((i : ℕ) → 1 ≤ i → i ≤ n → p i ≡ true) → allTo p n ≡ true
+unfolding allTo
+all-to p zero f = refl
+all-to p (suc n) f = and-both _ _ (all-to p n (λ i l h. f i l (omega arith))) (f (suc n) (omega arith) (le-refl _))
+
+-- of two tests, the first implies another; the second does
+pub and-first : (x y a : Bool) → (x ≡ true → a ≡ true) → (x && y) ≡ true → (a && y) ≡ true
+and-first x y a f e = and-both _ _ (f (and-left _ _ e)) (and-right x _ e)
+
+pub and-then : (x y b : Bool) → (y ≡ true → b ≡ true) → (x && y) ≡ true → (x && b) ≡ true
+and-then x y b f e = and-both x b (and-left x y e) (f (and-right x y e))
+
+pub is-within : (low high n : ℕ) → low ≤ n → n ≤ high → within low high n ≡ true
+is-within low high n l h = and-both _ _ (le-leb _ _ l) (le-leb _ _ h)
+
+-- the clauses, one by one
+pub record Formed (w : World) : Type 0 where
+  pub viewCount : length (w .viewList) ≡ views
+  pub serverCount : length (w .serverList) ≡ servers
+  pub clientCount : length (w .clientList) ≡ clients
+  pub messageCount : length (w .messageList) ≡ suc messages
+  pub full : w .used ≤ messages
+  pub low : 1 ≤ newest w
+  pub high : newest w ≤ views
+  pub ending : endingFits w (w .administrator .ending) ≡ true
+  pub viewed : (t : ℕ) → 1 ≤ t → t ≤ views → viewFits w t ≡ true
+  pub served : (s : ℕ) → 1 ≤ s → s ≤ servers → serverFits w s ≡ true
+  pub client : (c : ℕ) → 1 ≤ c → c ≤ clients → clientFits w c ≡ true
+  pub zero : zeroMessage (message w 0) ≡ true
+  pub mail : (n : ℕ) → 1 ≤ n → n ≤ messages → messageFits w n ≡ true
+  pub chained : (r : ℕ) → 1 ≤ r → r ≤ w .used → chainFits w r ≡ true
+
+pub formed : (w : World) → wellFormed w ≡ true → Formed w
+unfolding wellFormed shape headerFits
+formed w e =
+    let s = and-left _ _ e in
+    let e1 = and-right (shape w) _ e in
+    let h = and-left _ _ e1 in
+    let e2 = and-right (headerFits w) _ e1 in
+    let e3 = and-right (allTo (viewFits w) views) _ e2 in
+    let e4 = and-right (allTo (serverFits w) servers) _ e3 in
+    let e5 = and-right (allTo (clientFits w) clients) _ e4 in
+    let e6 = and-right (zeroMessage (message w 0)) _ e5 in
+    let s1 = and-right (eqb (length (w .viewList)) views) _ s in
+    let s2 = and-right (eqb (length (w .serverList)) servers) _ s1 in
+    let h1 = and-right (leb (w .used) messages) _ h in
+    let n = within-true 1 views (newest w) (and-left _ _ h1) in
+    record {
+      viewCount = eqb-true _ _ (and-left _ _ s);
+      serverCount = eqb-true _ _ (and-left _ _ s1);
+      clientCount = eqb-true _ _ (and-left _ _ s2);
+      messageCount = eqb-true _ _ (and-right (eqb (length (w .clientList)) clients) _ s2);
+      full = leb-true _ _ (and-left _ _ h);
+      low = n .0;
+      high = n .1;
+      ending = and-right (within 1 views (newest w)) _ h1;
+      viewed = λ t l u. allTo-at (viewFits w) views t (and-left _ _ e2) l u;
+      served = λ t l u. allTo-at (serverFits w) servers t (and-left _ _ e3) l u;
+      client = λ t l u. allTo-at (clientFits w) clients t (and-left _ _ e4) l u;
+      zero = and-left _ _ e5;
+      mail = λ t l u. allTo-at (messageFits w) messages t (and-left _ _ e6) l u;
+      chained = λ t l u. allTo-at (chainFits w) (w .used) t (and-right (allTo (messageFits w) messages) _ e6) l u;
+    }
+
+pub well-formed : (w : World) → Formed w → wellFormed w ≡ true
+unfolding wellFormed shape headerFits
+well-formed w h =
+    and-both _ _ (and-both _ _ (eq-eqb _ _ (h .viewCount)) (and-both _ _ (eq-eqb _ _ (h .serverCount)) (and-both _ _ (eq-eqb _ _ (h .clientCount)) (eq-eqb _ _ (h .messageCount)))))
+    (and-both _ _ (and-both _ _ (le-leb _ _ (h .full)) (and-both _ _ (is-within 1 views (newest w) (h .low) (h .high)) (h .ending)))
+    (and-both _ _ (all-to (viewFits w) views (h .viewed))
+    (and-both _ _ (all-to (serverFits w) servers (h .served))
+    (and-both _ _ (all-to (clientFits w) clients (h .client))
+    (and-both _ _ (h .zero) (and-both _ _ (all-to (messageFits w) messages (h .mail)) (all-to (chainFits w) (w .used) (h .chained))))))))
+
+-- ---- what later worlds keep
+
+-- v has the messages of w, as they were sent, and no older newest view
+pub record Onward (w v : World) : Type 0 where
+  pub used : w .used ≤ v .used
+  pub newest : newest w ≤ newest v
+  pub same : (i : ℕ) → 1 ≤ i → i ≤ w .used → sent v i ≡ sent w i
+
+sent-present : (w : World) (n k s : ℕ) → isSent w n k s ≡ true → present w n ≡ true
+unfolding isSent
+sent-present w n k s e = and-left _ _ e
+
+module _ {w v : World} (o : Onward w v) where
+  pub present-on : (n : ℕ) → present w n ≡ true → present v n ≡ true
+  unfolding present
+  present-on n e = let (l, h) = within-true 1 (w .used) n e in is-within 1 (v .used) n l (omega (arith, o .used))
+
+  in-range : (n : ℕ) → present w n ≡ true → sent v n ≡ sent w n
+  unfolding present
+  in-range n e = let (l, h) = within-true 1 (w .used) n e in o .same n l h
+
+  kind-on : (n : ℕ) → present w n ≡ true → message v n .kind ≡ message w n .kind
+  unfolding sent content
+  kind-on n e = ap (λ (m : Message). m .kind) (in-range n e)
+
+  sender-on : (n : ℕ) → present w n ≡ true → message v n .sender ≡ message w n .sender
+  unfolding sent content
+  sender-on n e = ap (λ (m : Message). m .sender) (in-range n e)
+
+  tag-on : (n : ℕ) → present w n ≡ true → message v n .view ≡ message w n .view
+  unfolding sent content
+  tag-on n e = ap (λ (m : Message). m .view) (in-range n e)
+
+  entry-on : (n : ℕ) → present w n ≡ true → message v n .entry ≡ message w n .entry
+  unfolding sent content
+  entry-on n e = ap (λ (m : Message). m .entry) (in-range n e)
+
+  pub sent-on : (n k s : ℕ) → isSent w n k s ≡ true → isSent v n k s ≡ true
+  unfolding isSent
+  sent-on n k s e =
+      let p = and-left _ _ e in
+      and-both _ _ (present-on n p) (rw (kind-on n p, sender-on n p) (and-right (present w n) _ e))
+
+  -- an open END stays one while the newest view does
+  end-on : newest v ≡ newest w → (r : ℕ) → (isSent w r END 0 && eqb (message w r .view .0) (newest w)) ≡ true → (isSent v r END 0 && eqb (message v r .view .0) (newest v)) ≡ true
+  end-on q r e =
+      let p = and-left _ _ e in
+      let t : message v r .view .0 ≡ newest v =
+            ap (λ (x : ViewNumber). x .0) (tag-on r (sent-present w r END 0 p)) ∙ eqb-true _ _ (and-right (isSent w r END 0) _ e) ∙ sym q in
+      and-both _ _ (sent-on r END 0 p) (eq-eqb _ _ t)
+
+  pub ending-on : newest v ≡ newest w → (x : Ending) → endingFits w x ≡ true → endingFits v x ≡ true
+  ending-on q Settled e = refl
+  ending-on q (EndSent r) e =
+      let l : newest v < views = omega (arith, ltb-true (newest w) views (and-left _ _ e)) in
+      and-both _ _ (lt-ltb _ _ l) (end-on q (r .0) (and-right (ltb (newest w) views) _ e))
+
+  pub phase-on : (c : ℕ) (a : Client) (p : Phase) → phaseFits w c a p ≡ true → phaseFits v c a p ≡ true
+  phase-on c a Idle e = e
+  phase-on c a (Reading r) e = and-then (within WRITES READS (a .kind)) _ _ (and-first (isSent w (r .0) READ c) _ (isSent v (r .0) READ c) (sent-on (r .0) READ c)) e
+  phase-on c a (Writing r) e = and-then (within WRITES READS (a .kind)) _ _ written e
+    where
+      written : (isSent w (r .0) WRITE c && same (a .entry) (message w (r .0) .entry)) ≡ true → (isSent v (r .0) WRITE c && same (a .entry) (message v (r .0) .entry)) ≡ true
+      written z =
+          let p = and-left _ _ z in
+          let q : same (a .entry) (message v (r .0) .entry) ≡ true = rw (entry-on (r .0) (sent-present w (r .0) WRITE c p)) (and-right (isSent w (r .0) WRITE c) _ z) in
+          and-both _ _ (sent-on (r .0) WRITE c p) q
+
+  tag-fits-on : (k t : ℕ) → viewTagFits w k t ≡ true → viewTagFits v k t ≡ true
+  tag-fits-on k t e = go (leb k WRITE) e
+    where
+      go : (b : Bool) → if b (eqb t 0) (within 1 (newest w) t) ≡ true → if b (eqb t 0) (within 1 (newest v) t) ≡ true
+      go true e = e
+      go false e = let (l, h) = within-true 1 (newest w) t e in is-within 1 (newest v) t l (omega (arith, o .newest))
+
+  request-on : (m : Message) → requestFits w m ≡ true → requestFits v m ≡ true
+  request-on m e = go (eqb (m .kind) ANSWER) e
+    where
+      go : (b : Bool) → if b (present w (m .request .0) && isRequest (message w (m .request .0) .kind)) (not (m .taken) && eqb (m .request .0) 0) ≡ true
+          → if b (present v (m .request .0) && isRequest (message v (m .request .0) .kind)) (not (m .taken) && eqb (m .request .0) 0) ≡ true
+      go true e = let p = and-left _ _ e in and-both _ _ (present-on (m .request .0) p) (rw (kind-on (m .request .0) p) (and-right (present w (m .request .0)) _ e))
+      go false e = e
+
+  -- a message that fits in w fits in v
+  pub fits-on : (m : Message) → sentFits w m ≡ true → sentFits v m ≡ true
+  unfolding sentFits
+  fits-on m =
+      and-then (within READ ANSWER (m .kind)) _ _
+      (and-then (senderFits (m .kind) (m .sender)) _ _
+      (λ e.
+      let r = and-right (viewTagFits w (m .kind) (m .view .0)) _ e in
+      and-both _ _ (tag-fits-on (m .kind) (m .view .0) (and-left _ _ e)) (and-first (requestFits w m) _ (requestFits v m) (request-on m) r)))

@@ -1,0 +1,5 @@
+pub mod Formed
+pub mod Chained
+pub mod Links
+pub mod Updates
+pub mod Kept
