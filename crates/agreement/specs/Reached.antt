@@ -25,6 +25,7 @@ use Rattle.protocol.specs.Steps.{After, step}
 use Rattle.protocol.specs.Consistent.{In, here, there}
 use Rattle.protocol.specs.Runs.{stepOf, stepBytes, Tracked, tracked, started, Run, noted, run, runFrom}
 use Rattle.protocol.specs.Laws.Tests.{clash, by-bool, or-cases}
+use Rattle.protocol.specs.Laws.Fresh.{First, member-of, outside, first, used-none, views-count, servers-count, clients-count, messages-count, fresh-newest, fresh-view, fresh-settled, fresh-client, fresh-message}
 use Rattle.protocol.specs.Laws.Bits.{holds-bitOf, holds-none}
 use Rattle.protocol.specs.Laws.Worlds.{content, sent}
 use Rattle.protocol.specs.Laws.Sound.{Mail, Sized, Sound, Linked, nowhere}
@@ -37,99 +38,24 @@ use Rattle.agreement.specs.Story.{Fresh, Newly, story-on}
 
 -- ---- a fresh world
 
-getD-listTo : {A : Type 0} (g : ℕ → A) (n k : ℕ) (d : A) → (getD (listTo g n) k d ≡ g (suc k)) ⊎ (getD (listTo g n) k d ≡ d)
-unfolding listTo
-getD-listTo g zero k d = inr refl
-getD-listTo g (suc n) zero d = inl refl
-getD-listTo g (suc n) (suc k) d = getD-listTo (λ i. g (suc i)) n k d
-
-length-listTo : {A : Type 0} (g : ℕ → A) (n : ℕ) → length (listTo g n) ≡ n
-unfolding listTo
-length-listTo g zero = refl
-length-listTo g (suc n) = ap suc (length-listTo (λ i. g (suc i)) n)
-
--- a server of a fresh world is a member of view 1, or nobody
-data First (v : View) (s : ℕ) (a : Server) : Type 0 where
-  member-of : holds (v .members) s ≡ true → a ≡ record { view = record { 0 = 1 }; faulty = false; keys = 1; entry = empty } → First v s a
-  outside : a ≡ noServer → First v s a
-
-first : (v : View) (s : ℕ) → First v s (server (freshWorld v) s)
-unfolding server freshWorld nth
-first v zero = outside refl
-first v (suc k) = go (getD-listTo (freshServer (v .members)) servers k noServer) (by-bool (holds (v .members) (suc k)))
-  where
-    go : {a : Server} → (a ≡ freshServer (v .members) (suc k)) ⊎ (a ≡ noServer) → (holds (v .members) (suc k) ≡ true) ⊎ (holds (v .members) (suc k) ≡ false) → First v (suc k) a
-    go (inl e) (inl h) = member-of h (e ∙ rw h refl)
-    go (inl e) (inr h) = outside (e ∙ rw h refl)
-    go (inr e) h = outside e
-
--- no message was sent
-unsent : (v : View) (i : ℕ) → i ≤ freshWorld v .used → sent (freshWorld v) i ≡ noMessage
-unfolding sent content message freshWorld
-unsent v zero h = refl
-unsent v (suc i) h = absurd (omega arith)
-
-all-idle : (v : View) (c : ℕ) → isIdle (client (freshWorld v) c .phase) ≡ true
-unfolding client freshWorld nth
-all-idle v zero = refl
-all-idle v (suc k) = go clients k
-  where
-    go : (n k : ℕ) → isIdle (getD (replicate n noClient) k noClient .phase) ≡ true
-    go zero k = refl
-    go (suc n) zero = refl
-    go (suc n) (suc k) = go n k
-
-used-none : (v : View) (n : ℕ) → freshWorld v .used ≤ n
-unfolding freshWorld
-used-none v n = omega arith
-
-messages-count : (v : View) → length (freshWorld v .messageList) ≡ suc messages
-unfolding freshWorld
-messages-count v = length-replicate (suc messages) noMessage
-
-clients-count : (v : View) → length (freshWorld v .clientList) ≡ clients
-unfolding freshWorld
-clients-count v = length-replicate clients noClient
-
-servers-count : (v : View) → length (freshWorld v .serverList) ≡ servers
-unfolding freshWorld
-servers-count v = length-listTo (freshServer (v .members)) servers
-
-unlinked : (v : View) (i : ℕ) → i ≤ freshWorld v .used → message (freshWorld v) i .next .0 ≡ 0
-unfolding message freshWorld
-unlinked v zero h = refl
-unlinked v (suc i) h = absurd (omega arith)
-
-fresh-newest : (v : View) → newest (freshWorld v) ≡ 1
-unfolding freshWorld
-fresh-newest v = refl
-
-fresh-view : (v : View) → view (freshWorld v) 1 ≡ v
-unfolding freshWorld view nth
-fresh-view v = refl
-
-fresh-settled : (v : View) → isEnding (freshWorld v .administrator .ending) ≡ false
-unfolding freshWorld
-fresh-settled v = refl
-
-views-count : (v : View) → length (freshWorld v .viewList) ≡ 32
-unfolding freshWorld
-views-count v = ap suc (length-replicate 31 noView)
-
 module _ (v : View) (z : sized v ≡ true) where
+  unsent : (i : ℕ) → i ≤ freshWorld v .used → sent (freshWorld v) i ≡ noMessage
+  unfolding sent content
+  unsent i l = ap content (fresh-message v i)
+
+  no-kind : (i : ℕ) {k : ℕ} {A : Type 0} → i ≤ freshWorld v .used → sent (freshWorld v) i .kind ≡ suc k → A
+  no-kind i l e = absurd (omega (arith, ap (λ (m : Message). m .kind) (unsent i l)))
+
   fresh-sound : Sound (freshWorld v)
   fresh-sound = record { mail = mail; sized = views; serverCount = servers-count v; clientCount = clients-count v }
     where
-      none-sent : (i : ℕ) {k : ℕ} {A : Type 0} → i ≤ freshWorld v .used → sent (freshWorld v) i .kind ≡ suc k → A
-      none-sent i l e = absurd (omega (arith, ap (λ (m : Message). m .kind) (unsent v i l)))
-
       mail : Mail (freshWorld v)
       mail =
           record {
             count = messages-count v;
             full = used-none v messages;
-            asked = λ i l e. none-sent i l e;
-            links = λ i l. nowhere (unlinked v i l);
+            asked = λ i l e. no-kind i l e;
+            links = λ i l. nowhere (ap (λ (m : Message). m .next .0) (fresh-message v i));
           }
 
       views : Sized (freshWorld v)
@@ -140,9 +66,6 @@ module _ (v : View) (z : sized v ≡ true) where
             sizes = λ t l u. let e : t ≡ 1 = omega (arith, fresh-newest v) in rw (e, fresh-view v) z;
             pending = λ e. clash e (fresh-settled v);
           }
-
-  no-kind : (i : ℕ) {k : ℕ} {A : Type 0} → i ≤ freshWorld v .used → sent (freshWorld v) i .kind ≡ suc k → A
-  no-kind i l e = absurd (omega (arith, ap (λ (m : Message). m .kind) (unsent v i l)))
 
   fresh-keyed : (s t : ℕ) → holds (server (freshWorld v) s .keys) t ≡ true → Keyed (freshWorld v) t s
   unfolding member bitOf
@@ -172,7 +95,7 @@ module _ (v : View) (z : sized v ≡ true) where
   fresh-inv =
       record {
         low = omega (arith, fresh-newest v);
-        first = ap (λ (m : Message). m .kind) (unsent v 0 (omega arith));
+        first = ap (λ (m : Message). m .kind) (unsent 0 (omega arith));
         later = λ k l i. no-kind k l i;
         tagged = λ k l i. no-kind k l i;
         keyed = fresh-keyed;
@@ -197,7 +120,7 @@ module _ (v : View) (z : sized v ≡ true) where
       record {
         fits = λ o i. no-member i;
         order = nobody;
-        opener = λ c l e. clash (all-idle v c) e;
+        opener = λ c l e. clash (ap (λ (a : Client). isIdle (a .phase)) (fresh-client v c)) e;
         writer = λ j l h e. no-kind j h e;
       }
 

@@ -3,3 +3,4 @@ pub mod Chained
 pub mod Links
 pub mod Updates
 pub mod Kept
+pub mod Begun

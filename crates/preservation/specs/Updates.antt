@@ -63,7 +63,7 @@ pub mail-zero : {w : World} → Formed w → (n : ℕ) → w .used < n → n ≤
 unfolding messageFits
 mail-zero {w} h n l u = rw (lt-leb n (w .used) l) at (h .mail n (omega arith) u)
 
-is-mail : (w : World) (n : ℕ) → (n ≤ w .used → sentFits w (message w n) ≡ true) → (w .used < n → zeroMessage (message w n) ≡ true) → messageFits w n ≡ true
+pub is-mail : (w : World) (n : ℕ) → (n ≤ w .used → sentFits w (message w n) ≡ true) → (w .used < n → zeroMessage (message w n) ≡ true) → messageFits w n ≡ true
 unfolding messageFits
 is-mail w n f g = go (decLe n (w .used))
   where
@@ -446,7 +446,7 @@ ending-called w a t v = refl
 abbrev isZero : View → Bool
 isZero v = eqb (v .members) 0 && eqb (v .f) 0
 
-is-view : (w : World) (t : ℕ) → (t ≤ lastView w → sized (view w t) ≡ true) → (lastView w < t → isZero (view w t) ≡ true) → viewFits w t ≡ true
+pub is-view : (w : World) (t : ℕ) → (t ≤ lastView w → sized (view w t) ≡ true) → (lastView w < t → isZero (view w t) ≡ true) → viewFits w t ≡ true
 unfolding viewFits
 is-view w t f g = go (decLe t (lastView w))
   where

@@ -9,3 +9,4 @@ pub mod Change
 pub mod Sound
 pub mod Moves
 pub mod Turns
+pub mod Fresh
