@@ -4,10 +4,10 @@ use mathlib.Core.Bool.{Bool, true, false}
 use mathlib.Core.Option.{Option, none, some}
 use mathlib.Core.Path.{_≡_, refl}
 use mathlib.Core.List.{List, [], _∷_, _++_}
-use Rattle.protocol.specs.Types.{Phase, Idle, Reading, Writing, Message}
+use Rattle.protocol.specs.Types.{Phase, Reading, Writing}
 use Rattle.protocol.specs.Tools.{countTo, allTo, any, holds, bitOf, nth, replace, Result, done, guard}
 use Rattle.protocol.specs.Sizes.{quorum, size, sized, readSize, writeSize}
-use Rattle.protocol.specs.Entries.{entry, empty, below, larger, largest}
+use Rattle.protocol.specs.Entries.{entry, empty, below, larger, largest, chosen}
 use Rattle.protocol.specs.Servers.{keeping, withoutKey, joining, gathering, serve, mayAnswer}
 use Rattle.protocol.specs.Clients.{WRITES, READS, number, begin, toWrite, countLeft, close, call, advance}
 use Rattle.protocol.specs.Worlds.{World, view, server, client, message, member, present, room, withServer, withClient, withView, withMessage, withAdministrator, send, listTo, freshWorld, fresh, bad, premise}
@@ -140,3 +140,101 @@ stale-read : operations-of 15 1 (written ++ (ended ++ (turned ++ stale)))
     ≡ (record { kind = WRITES; begin = 2; end = 14; entry = some (entry 1 1 7) } ∷ record { kind = READS; begin = 15; end = 38; entry = some empty } ∷ [])
 unfolding operations-of written ended turned stale
 stale-read = refl
+
+-- "Counting answers instead of servers: a faulty server answers twice." A read of client 2 after the write: 2 answers the old
+-- entry, 1 shows it two times
+doubled : List (List ℕ)
+doubled =
+    read 2 ∷ deliver-to 9 2 ∷ false-answer 1 1 9 0 ∷ false-answer 1 1 9 0 ∷ take-one 10 ∷ take-one 11 ∷ take-one 12 ∷ []
+
+-- all are taken, and the phase stays open
+doubled-steps : steps-of 15 1 (written ++ doubled) ≡ 21
+unfolding steps-of written doubled
+doubled-steps = refl
+
+doubled-open : phase-after 15 1 (written ++ doubled) 2 ≡ Reading (number 9)
+unfolding phase-after written doubled
+doubled-open = refl
+
+-- "Adding up answers of different views to one quorum." 2 answers the read in view 1, 3 and 4 in view 2
+mixed : List (List ℕ)
+mixed =
+    read 2 ∷ deliver-to 9 2
+    ∷ new-view 15 1 ∷ deliver-to 11 2 ∷ deliver-to 11 3 ∷ deliver-to 11 4 ∷ take-one 12 ∷ take-one 13 ∷ take-one 14
+    ∷ deliver-to 15 3 ∷ deliver-to 15 4 ∷ deliver-to 9 3 ∷ deliver-to 9 4 ∷ take-one 10 ∷ take-one 16 ∷ take-one 17 ∷ []
+
+mixed-steps : steps-of 15 1 (written ++ mixed) ≡ 30
+unfolding steps-of written mixed
+mixed-steps = refl
+
+mixed-open : phase-after 15 1 (written ++ mixed) 2 ≡ Reading (number 9)
+unfolding phase-after written mixed
+mixed-open = refl
+
+-- "Letting a START that comes again return a key given up." 2 joins view 2 by START 5 and gives its key up by END 6
+parted : List (List ℕ)
+parted =
+    new-view 15 1 ∷ deliver-to 1 2 ∷ deliver-to 1 3 ∷ deliver-to 1 4 ∷ take-one 2 ∷ take-one 3 ∷ take-one 4 ∷ deliver-to 5 2
+    ∷ new-view 15 1 ∷ deliver-to 6 2 ∷ []
+
+-- START 5 comes again: the rule does not apply
+again : List (List ℕ)
+again = deliver-to 5 2 ∷ []
+
+again-steps : steps-of 15 1 (parted ++ again) ≡ 10
+unfolding steps-of parted again
+again-steps = refl
+
+again-refusal : refusal-of 15 1 (parted ++ again) ≡ 7
+unfolding refusal-of parted again
+again-refusal = refl
+
+-- nor does 2 serve a READ without its key
+keyless : List (List ℕ)
+keyless = read 1 ∷ deliver-to 8 2 ∷ []
+
+keyless-steps : steps-of 15 1 (parted ++ keyless) ≡ 11
+unfolding steps-of parted keyless
+keyless-steps = refl
+
+keyless-refusal : refusal-of 15 1 (parted ++ keyless) ≡ 7
+unfolding refusal-of parted keyless
+keyless-refusal = refl
+
+-- "Skipping the reader's write-back." A WRITE reaches 2 alone, and 2, 3 and 4 answer a read
+surfacing : List (List ℕ)
+surfacing =
+    write 1 7 ∷ deliver-to 1 2 ∷ deliver-to 1 3 ∷ deliver-to 1 4 ∷ take-one 2 ∷ take-one 3 ∷ take-one 4 ∷ deliver-to 5 2
+    ∷ read 2 ∷ deliver-to 7 2 ∷ deliver-to 7 3 ∷ deliver-to 7 4 ∷ take-one 8 ∷ take-one 9 ∷ take-one 10 ∷ []
+
+-- the read is not complete: it writes back
+surfacing-open : phase-after 15 1 surfacing 2 ≡ Writing (number 11)
+unfolding phase-after surfacing
+surfacing-open = refl
+
+-- it ends once 1, 3 and 4 keep the entry, so that a read which they answer returns it too
+written-back : List (List ℕ)
+written-back =
+    deliver-to 11 1 ∷ deliver-to 11 3 ∷ deliver-to 11 4 ∷ take-one 12 ∷ take-one 13 ∷ take-one 14
+    ∷ read 3 ∷ deliver-to 15 1 ∷ deliver-to 15 3 ∷ deliver-to 15 4 ∷ take-one 16 ∷ take-one 17 ∷ take-one 18
+    ∷ deliver-to 19 1 ∷ deliver-to 19 3 ∷ deliver-to 19 4 ∷ take-one 20 ∷ take-one 21 ∷ take-one 22 ∷ []
+
+back-operations : operations-of 15 1 (surfacing ++ written-back)
+    ≡ (record { kind = WRITES; begin = 1; end = 0; entry = some (entry 1 1 7) }
+    ∷ record { kind = READS; begin = 9; end = 21; entry = some (entry 1 1 7) }
+    ∷ record { kind = READS; begin = 22; end = 34; entry = some (entry 1 1 7) }
+    ∷ [])
+unfolding operations-of surfacing written-back
+back-operations = refl
+
+-- ---- equal stamps: no run whose premise holds shows two entries of one stamp, so the ties are computed on entries
+
+-- "equal stamps: its own"
+its-own : larger (entry 1 1 7) (entry 1 1 8) ≡ entry 1 1 7
+unfolding run-of
+its-own = refl
+
+-- "equal stamps: the one taken first", the last of a list from the newest to the oldest
+taken-first : chosen (entry 1 1 8 ∷ entry 1 1 7 ∷ []) ≡ entry 1 1 7
+unfolding run-of
+taken-first = refl
