@@ -1,18 +1,18 @@
 -- Runs computed on the definitions: they are about something. Assumes nothing.
 use Prim.Native.Nat.{ℕ}
 use mathlib.Core.Bool.{Bool, true, false}
-use mathlib.Core.Option.{Option, none, some}
+use mathlib.Core.Option.{some}
 use mathlib.Core.Path.{_≡_, refl}
 use mathlib.Core.List.{List, [], _∷_, _++_}
-use Rattle.protocol.specs.Types.{Phase, Reading, Writing}
-use Rattle.protocol.specs.Tools.{countTo, allTo, any, holds, bitOf, nth, replace, Result, done, guard}
+use Rattle.protocol.specs.Types.{Entry, Reading, Writing}
+use Rattle.protocol.specs.Tools.{countTo, allTo, any, holds, bitOf, nth, replace, done, guard}
 use Rattle.protocol.specs.Sizes.{quorum, size, sized, readSize, writeSize}
 use Rattle.protocol.specs.Entries.{entry, empty, below, larger, largest, chosen}
-use Rattle.protocol.specs.Servers.{keeping, withoutKey, joining, gathering, serve, mayAnswer}
+use Rattle.protocol.specs.Servers.{WRITE, keeping, withoutKey, joining, gathering, serve, mayAnswer}
 use Rattle.protocol.specs.Clients.{WRITES, READS, number, begin, toWrite, countLeft, close, call, advance}
-use Rattle.protocol.specs.Worlds.{World, view, server, client, message, member, present, room, withServer, withClient, withView, withMessage, withAdministrator, send, listTo, freshWorld, fresh, bad, premise}
+use Rattle.protocol.specs.Worlds.{World, view, server, client, message, newest, member, present, room, withServer, withClient, withView, withMessage, withAdministrator, send, listTo, freshWorld, fresh, bad, premise}
 use Rattle.protocol.specs.Chains.{follow, chain, heard, enough, shown}
-use Rattle.protocol.specs.Steps.{uses, fieldsFit, begins, deliver, link, open?, closes, starts, takes, take, fault, source?, lie, newView, perform, step}
+use Rattle.protocol.specs.Steps.{request, uses, fieldsFit, begins, deliver, link, open?, closes, starts, takes, take, fault, source?, lie, newView, perform, step}
 use Rattle.protocol.specs.Consistent.{Operation}
 use Rattle.protocol.specs.Runs.{stepOf, stepBytes, Replayed, replay, tracked, Run, run, runFrom, entryOf, operation, history}
 
@@ -53,27 +53,31 @@ unfoldable pub run-of : ℕ → ℕ → List (List ℕ) → Run
 unfolding freshWorld listTo runFrom run tracked stepOf stepBytes step perform guard uses fieldsFit begins begin deliver serve keeping withoutKey joining gathering take takes link open? closes close toWrite countLeft starts advance fault source? lie mayAnswer newView call enough heard shown chain follow below larger largest quorum size sized readSize writeSize countTo any holds bitOf nth replace view server client message member present room withServer withClient withView withMessage withAdministrator send
 run-of bits f steps = runFrom (begun bits f) steps
 
+-- its operations
 unfoldable pub operations-of : ℕ → ℕ → List (List ℕ) → List Operation
 unfolding run-of history operation entryOf
 operations-of bits f steps = history (run-of bits f steps)
 
+-- whether the premise holds after it
 unfoldable pub premise-after : ℕ → ℕ → List (List ℕ) → Bool
 unfolding run-of premise bad allTo
 premise-after bits f steps = premise (run-of bits f steps .world)
 
--- the phase of client c after the run
-unfoldable pub phase-after : ℕ → ℕ → List (List ℕ) → ℕ → Phase
-unfolding run-of
-phase-after bits f steps c = client (run-of bits f steps .world) c .phase
+-- where a replay stops: the steps accepted and the refusal, as in the program's last line
+pub record Stop : Type 0 where
+  pub steps : ℕ
+  pub refusal : ℕ
 
--- the steps that a replay accepts, and the refusal that stops it
-unfoldable pub steps-of : ℕ → ℕ → List (List ℕ) → ℕ
+unfoldable pub stop-of : ℕ → ℕ → List (List ℕ) → Stop
 unfolding run-of replay
-steps-of bits f steps = replay (begun bits f) steps .steps
+stop-of bits f steps = let r : Replayed = replay (begun bits f) steps in record { steps = r .steps; refusal = r .refusal }
 
-unfoldable pub refusal-of : ℕ → ℕ → List (List ℕ) → ℕ
-unfolding run-of replay
-refusal-of bits f steps = replay (begun bits f) steps .refusal
+abbrev pub stops : ℕ → ℕ → Stop
+stops steps refusal = record { steps = steps; refusal = refusal }
+
+-- an operation of a history
+abbrev pub operated : ℕ → ℕ → ℕ → Entry → Operation
+operated kind begin end e = record { kind = kind; begin = begin; end = end; entry = some e }
 
 -- ---- document 01's worked session: members {1}, f 0
 
@@ -82,41 +86,44 @@ worked =
     write 1 7 ∷ deliver-to 1 1 ∷ take-one 2 ∷ deliver-to 3 1 ∷ take-one 4
     ∷ read 2 ∷ deliver-to 5 1 ∷ take-one 6 ∷ deliver-to 7 1 ∷ take-one 8 ∷ []
 
--- its ten steps are accepted
-worked-steps : steps-of 1 0 worked ≡ 10
-unfolding steps-of worked
-worked-steps = refl
+-- "done 10 0"
+worked-stop : stop-of 1 0 worked ≡ stops 10 0
+unfolding stop-of worked
+worked-stop = refl
 
--- and it has document 01's two operations
-worked-operations : operations-of 1 0 worked
-    ≡ (record { kind = WRITES; begin = 1; end = 5; entry = some (entry 1 1 7) } ∷ record { kind = READS; begin = 6; end = 10; entry = some (entry 1 1 7) } ∷ [])
+-- "1 W 1 1 7", "2 R 1 1 7"
+worked-operations : operations-of 1 0 worked ≡ (operated WRITES 1 5 (entry 1 1 7) ∷ operated READS 6 10 (entry 1 1 7) ∷ [])
 unfolding operations-of worked
 worked-operations = refl
 
--- ---- document 01's wrong ideas: servers 1 to 4, f 1
+-- WRITE is answered after it is kept
+worked-answer : message (run-of 1 0 worked .world) 4 .entry ≡ entry 1 1 7
+unfolding run-of worked
+worked-answer = refl
 
--- The fresh world of servers 1 to 4 with f 1 is not refused
+-- ---- document 01's wrong ideas, on servers 1 to 4 with f 1
+
 four : fresh 15 1 ≡ done (begun 15 1)
 unfolding fresh run-of
 four = refl
 
--- "Counting faults only until a quorum has left." Server 1 is faulty. A write ends on 1, 3 and 4; a read opens and 2 answers
--- the old entry; 1 shows, 2 and 3 perform END
+-- Server 1 is faulty, and a write ends on 1, 3 and 4.
 written : List (List ℕ)
 written =
     fault-of 1 ∷ write 1 7 ∷ deliver-to 1 2 ∷ deliver-to 1 3 ∷ deliver-to 1 4 ∷ take-one 2 ∷ take-one 3 ∷ take-one 4
     ∷ deliver-to 5 3 ∷ deliver-to 5 4 ∷ false-answer 1 1 5 5 ∷ take-one 6 ∷ take-one 7 ∷ take-one 8 ∷ []
 
+-- "Counting faults only until a quorum has left." A read opens and 2 answers the old entry; 1 shows, 2 and 3 perform END.
 ended : List (List ℕ)
 ended =
     read 2 ∷ deliver-to 9 2
     ∷ new-view 15 1 ∷ false-answer 1 1 11 5 ∷ deliver-to 11 2 ∷ deliver-to 11 3 ∷ take-one 12 ∷ take-one 13 ∷ take-one 14 ∷ []
 
--- 4 turns faulty holding its key
+-- 4 turns faulty holding its key.
 turned : List (List ℕ)
 turned = fault-of 4 ∷ []
 
--- 1 and 4 answer old, and the read ends in view 2
+-- 1 and 4 answer old, and the read ends in view 2.
 stale : List (List ℕ)
 stale =
     false-answer 1 1 9 0 ∷ false-answer 4 1 9 0 ∷ take-one 10 ∷ take-one 16 ∷ take-one 17
@@ -132,109 +139,134 @@ unfolding premise-after written ended turned
 fails-after = refl
 
 -- every step is accepted, and the read, which began after the write had ended, returns the empty entry
-stale-steps : steps-of 15 1 (written ++ (ended ++ (turned ++ stale))) ≡ 38
-unfolding steps-of written ended turned stale
-stale-steps = refl
+stale-stop : stop-of 15 1 (written ++ (ended ++ (turned ++ stale))) ≡ stops 38 0
+unfolding stop-of written ended turned stale
+stale-stop = refl
 
-stale-read : operations-of 15 1 (written ++ (ended ++ (turned ++ stale)))
-    ≡ (record { kind = WRITES; begin = 2; end = 14; entry = some (entry 1 1 7) } ∷ record { kind = READS; begin = 15; end = 38; entry = some empty } ∷ [])
+stale-read : operations-of 15 1 (written ++ (ended ++ (turned ++ stale))) ≡ (operated WRITES 2 14 (entry 1 1 7) ∷ operated READS 15 38 empty ∷ [])
 unfolding operations-of written ended turned stale
 stale-read = refl
 
--- "Counting answers instead of servers: a faulty server answers twice." A read of client 2 after the write: 2 answers the old
--- entry, 1 shows it two times
+-- "Counting answers instead of servers: a faulty server answers twice." After the write a read opens, 2 answers the old entry
+-- and 1 shows it two times: all three are taken, and the phase stays open.
 doubled : List (List ℕ)
 doubled =
     read 2 ∷ deliver-to 9 2 ∷ false-answer 1 1 9 0 ∷ false-answer 1 1 9 0 ∷ take-one 10 ∷ take-one 11 ∷ take-one 12 ∷ []
 
--- all are taken, and the phase stays open
-doubled-steps : steps-of 15 1 (written ++ doubled) ≡ 21
-unfolding steps-of written doubled
-doubled-steps = refl
+doubled-stop : stop-of 15 1 (written ++ doubled) ≡ stops 21 0
+unfolding stop-of written doubled
+doubled-stop = refl
 
-doubled-open : phase-after 15 1 (written ++ doubled) 2 ≡ Reading (number 9)
-unfolding phase-after written doubled
+doubled-open : client (run-of 15 1 (written ++ doubled) .world) 2 .phase ≡ Reading (number 9)
+unfolding run-of written doubled
 doubled-open = refl
 
--- "Adding up answers of different views to one quorum." 2 answers the read in view 1, 3 and 4 in view 2
+-- "Adding up answers of different views to one quorum." 2 answers the read in view 1, 3 and 4 in view 2: it stays open.
 mixed : List (List ℕ)
 mixed =
     read 2 ∷ deliver-to 9 2
     ∷ new-view 15 1 ∷ deliver-to 11 2 ∷ deliver-to 11 3 ∷ deliver-to 11 4 ∷ take-one 12 ∷ take-one 13 ∷ take-one 14
     ∷ deliver-to 15 3 ∷ deliver-to 15 4 ∷ deliver-to 9 3 ∷ deliver-to 9 4 ∷ take-one 10 ∷ take-one 16 ∷ take-one 17 ∷ []
 
-mixed-steps : steps-of 15 1 (written ++ mixed) ≡ 30
-unfolding steps-of written mixed
-mixed-steps = refl
+mixed-stop : stop-of 15 1 (written ++ mixed) ≡ stops 30 0
+unfolding stop-of written mixed
+mixed-stop = refl
 
-mixed-open : phase-after 15 1 (written ++ mixed) 2 ≡ Reading (number 9)
-unfolding phase-after written mixed
+mixed-open : client (run-of 15 1 (written ++ mixed) .world) 2 .phase ≡ Reading (number 9)
+unfolding run-of written mixed
 mixed-open = refl
 
--- "Letting a START that comes again return a key given up." 2 joins view 2 by START 5 and gives its key up by END 6
+-- "Letting a START that comes again return a key given up." 2 joins view 2 by START 5 and gives its key up by END 6; START 5
+-- comes again.
+joined : List (List ℕ)
+joined =
+    new-view 15 1 ∷ deliver-to 1 2 ∷ deliver-to 1 3 ∷ deliver-to 1 4 ∷ take-one 2 ∷ take-one 3 ∷ take-one 4 ∷ deliver-to 5 2 ∷ []
+
 parted : List (List ℕ)
-parted =
-    new-view 15 1 ∷ deliver-to 1 2 ∷ deliver-to 1 3 ∷ deliver-to 1 4 ∷ take-one 2 ∷ take-one 3 ∷ take-one 4 ∷ deliver-to 5 2
-    ∷ new-view 15 1 ∷ deliver-to 6 2 ∷ []
+parted = new-view 15 1 ∷ deliver-to 6 2 ∷ []
 
--- START 5 comes again: the rule does not apply
-again : List (List ℕ)
-again = deliver-to 5 2 ∷ []
+again-stop : stop-of 15 1 (joined ++ (parted ++ (deliver-to 5 2 ∷ []))) ≡ stops 10 7
+unfolding stop-of joined parted
+again-stop = refl
 
-again-steps : steps-of 15 1 (parted ++ again) ≡ 10
-unfolding steps-of parted again
-again-steps = refl
-
-again-refusal : refusal-of 15 1 (parted ++ again) ≡ 7
-unfolding refusal-of parted again
-again-refusal = refl
-
--- nor does 2 serve a READ without its key
-keyless : List (List ℕ)
-keyless = read 1 ∷ deliver-to 8 2 ∷ []
-
-keyless-steps : steps-of 15 1 (parted ++ keyless) ≡ 11
-unfolding steps-of parted keyless
-keyless-steps = refl
-
-keyless-refusal : refusal-of 15 1 (parted ++ keyless) ≡ 7
-unfolding refusal-of parted keyless
-keyless-refusal = refl
-
--- "Skipping the reader's write-back." A WRITE reaches 2 alone, and 2, 3 and 4 answer a read
-surfacing : List (List ℕ)
-surfacing =
+-- "Skipping the reader's write-back." A WRITE reaches 2 alone, and 2, 3 and 4 answer a read: it is not complete.
+surfaced : List (List ℕ)
+surfaced =
     write 1 7 ∷ deliver-to 1 2 ∷ deliver-to 1 3 ∷ deliver-to 1 4 ∷ take-one 2 ∷ take-one 3 ∷ take-one 4 ∷ deliver-to 5 2
     ∷ read 2 ∷ deliver-to 7 2 ∷ deliver-to 7 3 ∷ deliver-to 7 4 ∷ take-one 8 ∷ take-one 9 ∷ take-one 10 ∷ []
 
--- the read is not complete: it writes back
-surfacing-open : phase-after 15 1 surfacing 2 ≡ Writing (number 11)
-unfolding phase-after surfacing
-surfacing-open = refl
+surfaced-open : client (run-of 15 1 surfaced .world) 2 .phase ≡ Writing (number 11)
+unfolding run-of surfaced
+surfaced-open = refl
 
--- it ends once 1, 3 and 4 keep the entry, so that a read which they answer returns it too
-written-back : List (List ℕ)
-written-back =
+-- It ends once 1, 3 and 4 keep the entry, so that a read which they answer returns it too.
+kept : List (List ℕ)
+kept =
     deliver-to 11 1 ∷ deliver-to 11 3 ∷ deliver-to 11 4 ∷ take-one 12 ∷ take-one 13 ∷ take-one 14
     ∷ read 3 ∷ deliver-to 15 1 ∷ deliver-to 15 3 ∷ deliver-to 15 4 ∷ take-one 16 ∷ take-one 17 ∷ take-one 18
     ∷ deliver-to 19 1 ∷ deliver-to 19 3 ∷ deliver-to 19 4 ∷ take-one 20 ∷ take-one 21 ∷ take-one 22 ∷ []
 
-back-operations : operations-of 15 1 (surfacing ++ written-back)
-    ≡ (record { kind = WRITES; begin = 1; end = 0; entry = some (entry 1 1 7) }
-    ∷ record { kind = READS; begin = 9; end = 21; entry = some (entry 1 1 7) }
-    ∷ record { kind = READS; begin = 22; end = 34; entry = some (entry 1 1 7) }
-    ∷ [])
-unfolding operations-of surfacing written-back
-back-operations = refl
+kept-operations : operations-of 15 1 (surfaced ++ kept)
+    ≡ (operated WRITES 1 0 (entry 1 1 7) ∷ operated READS 9 21 (entry 1 1 7) ∷ operated READS 22 34 (entry 1 1 7) ∷ [])
+unfolding operations-of surfaced kept
+kept-operations = refl
 
--- ---- equal stamps: no run whose premise holds shows two entries of one stamp, so the ties are computed on entries
+-- ---- other rules that an edit could turn round
 
--- "equal stamps: its own"
+-- "A correct server serves kinds 1 to 3 while it holds the key": 2 has given its key up
+keyless-stop : stop-of 15 1 (joined ++ (parted ++ (read 1 ∷ deliver-to 8 2 ∷ []))) ≡ stops 11 7
+unfolding stop-of joined parted
+keyless-stop = refl
+
+-- "9, it lacks that key": a server that turns faulty then has no view to answer with
+silent-stop : stop-of 15 1 (joined ++ (parted ++ (fault-of 2 ∷ false-answer 2 2 1 0 ∷ []))) ≡ stops 11 9
+unfolding stop-of joined parted
+silent-stop = refl
+
+-- "END (3) of its view": END of view 1 reaches 2 in view 2
+late-stop : stop-of 15 1 (joined ++ (deliver-to 1 2 ∷ [])) ≡ stops 8 7
+unfolding stop-of joined
+late-stop = refl
+
+-- "a member of N(t)": view 2 is of servers 2 to 4, and its START reaches 1
+outside-stop : stop-of 15 1 (new-view 14 0 ∷ deliver-to 1 2 ∷ deliver-to 1 3 ∷ deliver-to 1 4 ∷ take-one 2 ∷ take-one 3 ∷ take-one 4 ∷ deliver-to 5 1 ∷ []) ≡ stops 7 7
+unfolding stop-of
+outside-stop = refl
+
+-- "Answers to END with another view are taken and count for nothing." 1, faulty, alone makes the quorums of views 1 and 2; it
+-- answers END of view 2 with view 1
+other-view : List (List ℕ)
+other-view = fault-of 1 ∷ new-view 1 0 ∷ false-answer 1 1 1 0 ∷ take-one 2 ∷ new-view 1 0 ∷ false-answer 1 1 4 0 ∷ take-one 5 ∷ []
+
+other-stop : stop-of 1 0 other-view ≡ stops 7 0
+unfolding stop-of other-view
+other-stop = refl
+
+other-newest : newest (run-of 1 0 other-view .world) ≡ 2
+unfolding run-of other-view
+other-newest = refl
+
+-- "the largest stamp among those of view t": a WRITE reaches no server; 1, faulty, shows it with view 1 to a read that 2, 3 and 4
+-- answer in view 2
+shown-outside : List (List ℕ)
+shown-outside =
+    write 1 7 ∷ deliver-to 1 2 ∷ deliver-to 1 3 ∷ deliver-to 1 4 ∷ take-one 2 ∷ take-one 3 ∷ take-one 4
+    ∷ new-view 15 1 ∷ deliver-to 6 2 ∷ deliver-to 6 3 ∷ deliver-to 6 4 ∷ take-one 7 ∷ take-one 8 ∷ take-one 9
+    ∷ deliver-to 10 2 ∷ deliver-to 10 3 ∷ deliver-to 10 4
+    ∷ read 2 ∷ fault-of 1 ∷ false-answer 1 1 11 5 ∷ deliver-to 11 2 ∷ deliver-to 11 3 ∷ deliver-to 11 4
+    ∷ take-one 12 ∷ take-one 13 ∷ take-one 14 ∷ take-one 15 ∷ []
+
+-- the reader writes the empty entry back
+outside-chosen : message (run-of 15 1 shown-outside .world) 16 ≡ request WRITE 2 0 empty
+unfolding run-of shown-outside
+outside-chosen = refl
+
+-- Equal stamps. No run whose premise holds shows two entries of one stamp, so the ties are computed on entries: "its own", and
+-- "the one taken first", the last of a list from the newest to the oldest
 its-own : larger (entry 1 1 7) (entry 1 1 8) ≡ entry 1 1 7
 unfolding run-of
 its-own = refl
 
--- "equal stamps: the one taken first", the last of a list from the newest to the oldest
 taken-first : chosen (entry 1 1 8 ∷ entry 1 1 7 ∷ []) ≡ entry 1 1 7
 unfolding run-of
 taken-first = refl
