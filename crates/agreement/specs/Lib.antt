@@ -10,3 +10,4 @@ pub mod Precedence
 pub mod Legal
 pub mod Order
 pub mod Theorem
+pub mod Example

@@ -76,12 +76,13 @@ precedes-trans (by-read l e h) (by-kind m k) = by-kind (level-trans l m) (omega 
 precedes-trans (by-read l e h) (by-read m f k) = by-read (level-trans l m) (omega arith) (omega arith)
 
 -- a number is below another, above it, or the same
-data Tri (m n : ℕ) : Type 0 where
+pub data Tri (m n : ℕ) : Type 0 where
   less : m < n → Tri m n
   same : m ≡ n → Tri m n
   more : n < m → Tri m n
 
 tri : (m n : ℕ) → Tri m n
+unfolding decLt
 tri m n = go (decLt m n) (decLt n m)
   where
     go : Dec (m < n) → Dec (n < m) → Tri m n
@@ -90,7 +91,8 @@ tri m n = go (decLt m n) (decLt n m)
     go (no h) (no k) = same (omega arith)
 
 -- of two keys with different reads one precedes the other
-pub compared : (x y : Key) → Precedes x y ⊎ (x .read ≢ y .read → Precedes y x)
+unfoldable pub compared : (x y : Key) → Precedes x y ⊎ (x .read ≢ y .read → Precedes y x)
+unfolding tri
 compared x y = at (tri (countOf (x .entry)) (countOf (y .entry))) (tri (writerOf (x .entry)) (writerOf (y .entry))) (tri (x .kind) (y .kind)) (tri (x .read) (y .read))
   where
     at : Tri (countOf (x .entry)) (countOf (y .entry)) → Tri (writerOf (x .entry)) (writerOf (y .entry)) → Tri (x .kind) (y .kind) → Tri (x .read) (y .read)

@@ -11,10 +11,10 @@ use Rattle.agreement.specs.Carried.{Trusted}
 use Rattle.agreement.specs.Reached.{Reached, reached}
 use Rattle.agreement.specs.Order.{order, ordered}
 
-trusted : (r : Run) → Reached r → premise (r .world) ≡ true → Trusted (r .world)
+pub trusted : (r : Run) → Reached r → premise (r .world) ≡ true → Trusted (r .world)
 trusted r h p = record { inv = h .inv; sizes = h .sound .sized .sizes; premise = p }
 
-consistent : (r : Run) → Reached r → premise (r .world) ≡ true → Consistent (history r)
+unfoldable pub consistent : (r : Run) → Reached r → premise (r .world) ≡ true → Consistent (history r)
 unfolding history
 consistent r h p =
     let t = trusted r h p in
@@ -22,6 +22,7 @@ consistent r h p =
 
 -- For every fresh world and every list of steps, given by any bytes: if the premise holds in the last world, the operations of
 -- the run have one order as the mission describes it.
-pub linearizable : (members f : ℕ) (w : World) → fresh members f ≡ done w → (steps : List (List ℕ)) → premise (runFrom w steps .world) ≡ true
+unfoldable pub linearizable : (members f : ℕ) (w : World) → fresh members f ≡ done w → (steps : List (List ℕ)) → premise (runFrom w steps .world) ≡ true
     → Consistent (history (runFrom w steps))
+unfolding consistent
 linearizable members f w e steps p = consistent (runFrom w steps) (reached members f w e steps) p
