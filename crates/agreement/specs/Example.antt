@@ -8,7 +8,7 @@ use Rattle.protocol.specs.Entries.{entry, same}
 use Rattle.protocol.specs.Clients.{WRITES, READS}
 use Rattle.protocol.specs.Worlds.{fresh, premise}
 use Rattle.protocol.specs.Laws.Worlds.{content, sent}
-use Rattle.protocol.specs.Sessions.{write, read, deliver-to, take-one, fault-of, false-answer, new-view, begun, run-of, operations-of, premise-after, operated}
+use Rattle.protocol.specs.Sessions.{write, read, deliver-to, take-one, fault-of, false-answer, new-view, begun, run-of, operations-of, premise-after, stop-of, stops, operated}
 use Rattle.protocol.specs.Runs.{runFrom}
 use Rattle.agreement.specs.Sorting.{filter, sort}
 use Rattle.agreement.specs.Precedence.{compared}
@@ -39,7 +39,8 @@ fourth =
     read 3 ∷ write 4 9 ∷ deliver-to 23 2 ∷ deliver-to 23 3 ∷ deliver-to 23 5 ∷ take-one 24 ∷ take-one 25 ∷ take-one 26
     ∷ deliver-to 27 5 ∷ []
 
--- 1, retired and faulty, shows client 3 the entry of 7 with view 1; 2, 3 and 5 answer in view 2. Its last step is refused.
+-- 1, faulty and outside view 2, shows client 3 the entry of 7 with view 1; 2, 3 and 5 answer in view 2. The last step is
+-- refused: its answer was taken before.
 fifth : List (List ℕ)
 fifth =
     false-answer 1 1 22 5 ∷ take-one 29 ∷ deliver-to 22 2 ∷ deliver-to 22 3 ∷ deliver-to 22 5 ∷ take-one 30 ∷ take-one 31 ∷ take-one 32
@@ -48,6 +49,11 @@ fifth =
 example : List (List ℕ)
 unfolding first second third fourth fifth
 example = first ++ (second ++ (third ++ (fourth ++ fifth)))
+
+-- all steps but the last are accepted
+example-stop : stop-of 15 1 example ≡ stops 60 7
+unfolding stop-of example
+example-stop = refl
 
 -- its history, in the order of beginning
 example-history : operations-of 15 1 example
@@ -64,7 +70,7 @@ example-premise : premise (runFrom (begun 15 1) example .world) ≡ true
 unfolding premise-after example
 example-premise = refl
 
--- The theorem's order: the write of 9, which did not end, stands in it before the read that returned it.
+-- the theorem's order: the write of 9, which did not end, stands in it before the read that returned its entry
 example-order : linearizable 15 1 (begun 15 1) begins-four example example-premise .order
     ≡ (operated WRITES 2 14 (entry 1 1 7) ∷ operated READS 15 27 (entry 1 1 7) ∷ operated WRITES 39 0 (entry 2 4 9) ∷ operated READS 38 60 (entry 2 4 9) ∷ [])
 unfolding operations-of example linearizable order stands filter sort compared any same sent content

@@ -21,7 +21,7 @@ consistent r h p =
     record { order = map (operation (r .world)) (order t (h .story)); ordered = ordered t (h .story) }
 
 -- For every fresh world and every list of steps, given by any bytes: if the premise holds in the last world, the operations of
--- the run have one order as the mission describes it.
+-- the run have one order in which each read returns the last write before it.
 unfoldable pub linearizable : (members f : ℕ) (w : World) → fresh members f ≡ done w → (steps : List (List ℕ)) → premise (runFrom w steps .world) ≡ true
     → Consistent (history (runFrom w steps))
 unfolding consistent
