@@ -9,7 +9,6 @@ use Rattle.protocol.specs.Entries.{countOf, writerOf}
 use Rattle.protocol.specs.Laws.Entries.{_≼_, by-count, by-writer, ≼-refl}
 
 infix 50 _≺_
-
 -- the stamp of a is below that of b; the two are one stamp
 pub data _≺_ (a b : Entry) : Type 0 where
   count : countOf a < countOf b → a ≺ b
