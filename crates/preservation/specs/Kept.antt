@@ -111,12 +111,12 @@ server-of {w} h s i = serves (newest w) (server w s) (h .served s (i .low) (i .h
 
 -- ---- what a message's clause says
 
-record Mailed (w : World) (m : Message) : Type 0 where
-  sender : senderFits (m .kind) (m .sender) ≡ true
-  tag : viewTagFits w (m .kind) (m .view .0) ≡ true
-  entry : entryFits (m .entry) ≡ true
+pub record Mailed (w : World) (m : Message) : Type 0 where
+  pub sender : senderFits (m .kind) (m .sender) ≡ true
+  pub tag : viewTagFits w (m .kind) (m .view .0) ≡ true
+  pub entry : entryFits (m .entry) ≡ true
 
-mailed : {w : World} → Formed w → (n : ℕ) → 1 ≤ n → n ≤ w .used → Mailed w (message w n)
+pub mailed : {w : World} → Formed w → (n : ℕ) → 1 ≤ n → n ≤ w .used → Mailed w (message w n)
 unfolding sentFits
 mailed {w} h n l u =
     let m = message w n in

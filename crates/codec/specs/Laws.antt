@@ -1,0 +1,405 @@
+-- The laws of worlds and their images: a record of the image is that of the world, and a record put into the image is put into
+-- the world. Assumes nothing.
+use mathlib.Core.Path.{_≡_, refl, sym, ap, _∙_}
+use mathlib.Core.Logic.{⊎-elim}
+use mathlib.Core.List.{List, [], _∷_, _++_, append-assoc, append-nil}
+use Prim.Native.Nat.{ℕ, zero, suc, _+_, _*_, _≤_, _<_, _^_}
+use native.Mathlib.Omega.{arith}
+use lib.ListN.{length, getD, set, length-append, length-set}
+use Rattle.protocol.specs.declared.View.{View}
+use Rattle.protocol.specs.declared.Server.{Server}
+use Rattle.protocol.specs.declared.Client.{Client}
+use Rattle.protocol.specs.declared.Administrator.{Administrator}
+use Rattle.protocol.specs.declared.Message.{Message}
+use Rattle.protocol.specs.Tools.{nth, replace}
+use Rattle.protocol.specs.Sizes.{clients, servers, views, messages}
+use Rattle.protocol.specs.Worlds.{World, view, server, client, message, withView, withServer, withClient, withMessage, withAdministrator, send, listTo, noView, noServer, noClient, noMessage}
+use Rattle.codec.specs.Layout.{imageSize, headerWidth, viewsAt, serversAt, clientsAt, messagesAt, viewPlace, serverPlace, clientPlace, messagePlace, viewWidth, serverWidth, clientWidth, messageWidth}
+use Rattle.codec.specs.Lists.{part, put, flat, length-flat, part-group, put-group, part-number, put-number, length-replace, length-listTo, nth-listTo, listTo-nth, getD-cons, getD-set, nth-replace}
+use Rattle.codec.specs.Bytes.{half-le16, le16}
+use Rattle.codec.specs.Records.{headerBytes, viewBytes, serverBytes, clientBytes, messageBytes, administratorBytes, viewOf, serverOf, clientOf, messageOf, administratorOf, length-headerBytes, length-viewBytes, length-serverBytes, length-clientBytes, length-messageBytes, viewOf-bytes, serverOf-bytes, clientOf-bytes, messageOf-bytes, administratorOf-bytes, ViewFits, ServerFits, ClientFits, MessageFits, AdministratorFits}
+use Rattle.codec.specs.Places.{usedAt, putUsed, administratorAt, putAdministrator, viewAt, putView, serverAt, putServer, clientAt, putClient, messageAt, putMessage}
+use Rattle.codec.specs.Images.{encode, decode}
+
+listed : (g : ℕ → Message) (xs : List Message) → length xs ≡ suc messages → ((n : ℕ) → n ≤ messages → g n ≡ getD xs n noMessage)
+    → g 0 ∷ listTo g messages ≡ xs
+listed g [] e h = absurd (omega arith)
+listed g (x ∷ xs) e h =
+    rw (h 0 (omega arith))
+    (ap (λ (r : List Message). x ∷ r) (listTo-nth g xs noMessage messages (omega arith) (λ k l m. h k m ∙ getD-cons x xs k noMessage l)))
+
+-- the lists have their full lengths
+pub record Full (w : World) : Type 0 where
+  pub views : length (w .viewList) ≡ 32
+  pub servers : length (w .serverList) ≡ 32
+  pub clients : length (w .clientList) ≡ 16
+  pub messages : length (w .messageList) ≡ 1024
+
+-- and every record of them can be read back
+pub record Storable (w : World) : Type 0 where
+  pub full : Full w
+  pub used : w .used < 2 ^ 16
+  pub administrator : AdministratorFits (w .administrator)
+  pub view : (t : ℕ) → 1 ≤ t → t ≤ views → ViewFits (view w t)
+  pub server : (s : ℕ) → 1 ≤ s → s ≤ servers → ServerFits (server w s)
+  pub client : (c : ℕ) → 1 ≤ c → c ≤ clients → ClientFits (client w c)
+  pub message : (n : ℕ) → n ≤ messages → MessageFits (message w n)
+
+-- "messages used"
+unfoldable pub withUsed : World → ℕ → World
+withUsed w n =
+    record { used = n; administrator = w .administrator; viewList = w .viewList; serverList = w .serverList; clientList = w .clientList; messageList = w .messageList }
+
+-- what lies before and behind each group of records
+beforeServers : World → List ℕ
+beforeServers w = headerBytes (w .used) (w .administrator) ++ flat viewBytes (w .viewList)
+
+beforeClients : World → List ℕ
+beforeClients w = headerBytes (w .used) (w .administrator) ++ (flat viewBytes (w .viewList) ++ flat serverBytes (w .serverList))
+
+beforeMessages : World → List ℕ
+beforeMessages w =
+    headerBytes (w .used) (w .administrator) ++ (flat viewBytes (w .viewList) ++ (flat serverBytes (w .serverList) ++ flat clientBytes (w .clientList)))
+
+behindClients : World → List ℕ
+behindClients w = flat messageBytes (w .messageList)
+
+behindServers : World → List ℕ
+behindServers w = flat clientBytes (w .clientList) ++ flat messageBytes (w .messageList)
+
+behindViews : World → List ℕ
+behindViews w = flat serverBytes (w .serverList) ++ (flat clientBytes (w .clientList) ++ flat messageBytes (w .messageList))
+
+by-servers : (w : World) → encode w ≡ beforeServers w ++ (flat serverBytes (w .serverList) ++ behindServers w)
+unfolding encode beforeServers behindServers
+by-servers w = simp append-assoc
+
+by-clients : (w : World) → encode w ≡ beforeClients w ++ (flat clientBytes (w .clientList) ++ behindClients w)
+unfolding encode beforeClients behindClients
+by-clients w = simp append-assoc
+
+by-messages : (w : World) → encode w ≡ beforeMessages w ++ (flat messageBytes (w .messageList) ++ [])
+unfolding encode beforeMessages
+by-messages w = simp (append-assoc, append-nil)
+
+module _ (w : World) (h : Full w) where
+  length-views : length (flat viewBytes (w .viewList)) ≡ 256
+  length-views = omega (arith, length-flat viewBytes viewWidth length-viewBytes (w .viewList), h .views)
+
+  length-servers : length (flat serverBytes (w .serverList)) ≡ 640
+  length-servers = omega (arith, length-flat serverBytes serverWidth length-serverBytes (w .serverList), h .servers)
+
+  length-clients : length (flat clientBytes (w .clientList)) ≡ 256
+  length-clients = omega (arith, length-flat clientBytes clientWidth length-clientBytes (w .clientList), h .clients)
+
+  length-messages : length (flat messageBytes (w .messageList)) ≡ 20480
+  length-messages = omega (arith, length-flat messageBytes messageWidth length-messageBytes (w .messageList), h .messages)
+
+  at-servers : length (beforeServers w) ≡ serversAt
+  unfolding beforeServers
+  at-servers = simp (length-append, length-views, length-headerBytes)
+
+  at-clients : length (beforeClients w) ≡ clientsAt
+  unfolding beforeClients
+  at-clients = simp (length-append, length-views, length-servers, length-headerBytes)
+
+  at-messages : length (beforeMessages w) ≡ messagesAt
+  unfolding beforeMessages
+  at-messages = simp (length-append, length-views, length-servers, length-clients, length-headerBytes)
+
+  -- "Image, 21,648 bytes"
+  pub length-encode : length (encode w) ≡ imageSize
+  unfolding encode
+  length-encode = simp (length-append, length-views, length-servers, length-clients, length-messages, length-headerBytes)
+
+  -- the bytes of a record
+  pub part-view : (t : ℕ) → 1 ≤ t → t ≤ views → part (encode w) (viewPlace t) viewWidth ≡ viewBytes (view w t)
+  unfolding encode view behindViews
+  part-view t l m =
+      part-number viewBytes viewWidth length-viewBytes (headerBytes (w .used) (w .administrator)) (w .viewList) (behindViews w) viewsAt t noView
+      (length-headerBytes (w .used) (w .administrator)) l (omega (arith, h .views))
+
+  pub part-server : (s : ℕ) → 1 ≤ s → s ≤ servers → part (encode w) (serverPlace s) serverWidth ≡ serverBytes (server w s)
+  unfolding server
+  part-server s l m =
+      ap (λ (i : List ℕ). part i (serverPlace s) serverWidth) (by-servers w)
+      ∙ part-number serverBytes serverWidth length-serverBytes (beforeServers w) (w .serverList) (behindServers w) serversAt s noServer at-servers l
+      (omega (arith, h .servers))
+
+  pub part-client : (c : ℕ) → 1 ≤ c → c ≤ clients → part (encode w) (clientPlace c) clientWidth ≡ clientBytes (client w c)
+  unfolding client
+  part-client c l m =
+      ap (λ (i : List ℕ). part i (clientPlace c) clientWidth) (by-clients w)
+      ∙ part-number clientBytes clientWidth length-clientBytes (beforeClients w) (w .clientList) (behindClients w) clientsAt c noClient at-clients l
+      (omega (arith, h .clients))
+
+  pub part-message : (n : ℕ) → n ≤ messages → part (encode w) (messagePlace n) messageWidth ≡ messageBytes (message w n)
+  unfolding message
+  part-message n m =
+      ap (λ (i : List ℕ). part i (messagePlace n) messageWidth) (by-messages w)
+      ∙ part-group messageBytes messageWidth length-messageBytes (beforeMessages w) (w .messageList) [] messagesAt n noMessage at-messages
+      (omega (arith, h .messages))
+
+  -- a record put into the image is put into the world
+  pub put-view : (t : ℕ) → 1 ≤ t → t ≤ views → (v : View) → putView (encode w) t v ≡ encode (withView w t v)
+  unfolding putView encode withView behindViews
+  put-view t l m v =
+      put-number viewBytes viewWidth length-viewBytes (headerBytes (w .used) (w .administrator)) (w .viewList) (behindViews w) viewsAt t v
+      (length-headerBytes (w .used) (w .administrator)) l (omega (arith, h .views))
+
+  pub put-server : (s : ℕ) → 1 ≤ s → s ≤ servers → (v : Server) → putServer (encode w) s v ≡ encode (withServer w s v)
+  unfolding putServer withServer beforeServers behindServers
+  put-server s l m v =
+      ap (λ (i : List ℕ). put i (serverPlace s) (serverBytes v)) (by-servers w)
+      ∙ put-number serverBytes serverWidth length-serverBytes (beforeServers w) (w .serverList) (behindServers w) serversAt s v at-servers l
+      (omega (arith, h .servers))
+      ∙ sym (by-servers (withServer w s v))
+
+  pub put-client : (c : ℕ) → 1 ≤ c → c ≤ clients → (v : Client) → putClient (encode w) c v ≡ encode (withClient w c v)
+  unfolding putClient withClient beforeClients behindClients
+  put-client c l m v =
+      ap (λ (i : List ℕ). put i (clientPlace c) (clientBytes v)) (by-clients w)
+      ∙ put-number clientBytes clientWidth length-clientBytes (beforeClients w) (w .clientList) (behindClients w) clientsAt c v at-clients l
+      (omega (arith, h .clients))
+      ∙ sym (by-clients (withClient w c v))
+
+  pub put-message : (n : ℕ) → n ≤ messages → (v : Message) → putMessage (encode w) n v ≡ encode (withMessage w n v)
+  unfolding putMessage withMessage beforeMessages
+  put-message n m v =
+      ap (λ (i : List ℕ). put i (messagePlace n) (messageBytes v)) (by-messages w)
+      ∙ put-group messageBytes messageWidth length-messageBytes (beforeMessages w) (w .messageList) [] messagesAt n v at-messages
+      (omega (arith, h .messages))
+      ∙ sym (by-messages (withMessage w n v))
+
+pub put-used : (w : World) (n : ℕ) → putUsed (encode w) n ≡ encode (withUsed w n)
+unfolding putUsed encode withUsed put headerBytes
+put-used w n = refl
+
+pub put-administrator : (w : World) (a : Administrator) → putAdministrator (encode w) a ≡ encode (withAdministrator w a)
+unfolding putAdministrator encode withAdministrator put headerBytes administratorBytes
+put-administrator w a = refl
+
+-- "A new message takes the number after the last used."
+pub put-send : (w : World) → Full w → w .used < messages → (m : Message)
+    → putMessage (putUsed (encode w) (w .used + 1)) (w .used + 1) m ≡ encode (send w m)
+unfolding send withUsed withMessage
+put-send w h l m =
+    ap (λ (i : List ℕ). putMessage i (w .used + 1) m) (put-used w (w .used + 1))
+    ∙ put-message (withUsed w (w .used + 1)) (record { views = h .views; servers = h .servers; clients = h .clients; messages = h .messages })
+    (w .used + 1) (omega arith) m
+
+pub part-header : (w : World) → part (encode w) 0 headerWidth ≡ headerBytes (w .used) (w .administrator)
+unfolding encode part headerBytes administratorBytes
+part-header w = refl
+
+-- a record of the image is that of the world
+module _ (w : World) (h : Storable w) where
+  pub used-encode : usedAt (encode w) ≡ w .used
+  unfolding usedAt encode headerBytes
+  used-encode = half-le16 (w .used) (h .used)
+
+  pub administrator-encode : administratorAt (encode w) ≡ w .administrator
+  unfolding administratorAt encode headerBytes part administratorBytes
+  administrator-encode = administratorOf-bytes (w .administrator) (h .administrator)
+
+  pub view-encode : (t : ℕ) → 1 ≤ t → t ≤ views → viewAt (encode w) t ≡ view w t
+  unfolding viewAt
+  view-encode t l m = ap viewOf (part-view w (h .full) t l m) ∙ viewOf-bytes (view w t) (h .view t l m)
+
+  pub server-encode : (s : ℕ) → 1 ≤ s → s ≤ servers → serverAt (encode w) s ≡ server w s
+  unfolding serverAt
+  server-encode s l m = ap serverOf (part-server w (h .full) s l m) ∙ serverOf-bytes (server w s) (h .server s l m)
+
+  pub client-encode : (c : ℕ) → 1 ≤ c → c ≤ clients → clientAt (encode w) c ≡ client w c
+  unfolding clientAt
+  client-encode c l m = ap clientOf (part-client w (h .full) c l m) ∙ clientOf-bytes (client w c) (h .client c l m)
+
+  pub message-encode : (n : ℕ) → n ≤ messages → messageAt (encode w) n ≡ message w n
+  unfolding messageAt
+  message-encode n m = ap messageOf (part-message w (h .full) n m) ∙ messageOf-bytes (message w n) (h .message n m)
+
+  messages-encode : messageAt (encode w) 0 ∷ listTo (messageAt (encode w)) messages ≡ w .messageList
+  unfolding message
+  messages-encode = listed (messageAt (encode w)) (w .messageList) (h .full .messages) message-encode
+
+  -- a world is what its image spells
+  pub decode-encode : decode (encode w) ≡ w
+  unfolding decode view server client
+  decode-encode =
+      λ i.
+      record {
+        used = used-encode i;
+        administrator = administrator-encode i;
+        viewList = listTo-nth (viewAt (encode w)) (w .viewList) noView views (h .full .views) view-encode i;
+        serverList = listTo-nth (serverAt (encode w)) (w .serverList) noServer servers (h .full .servers) server-encode i;
+        clientList = listTo-nth (clientAt (encode w)) (w .clientList) noClient clients (h .full .clients) client-encode i;
+        messageList = messages-encode i;
+      }
+
+-- ---- the world that an image spells
+
+module _ (l : List ℕ) where
+  pub used-decode : decode l .used ≡ usedAt l
+  unfolding decode
+  used-decode = refl
+
+  pub administrator-decode : decode l .administrator ≡ administratorAt l
+  unfolding decode
+  administrator-decode = refl
+
+  pub decode-full : Full (decode l)
+  unfolding decode
+  decode-full =
+      record {
+        views = length-listTo (viewAt l) views;
+        servers = length-listTo (serverAt l) servers;
+        clients = length-listTo (clientAt l) clients;
+        messages = ap suc (length-listTo (messageAt l) messages);
+      }
+
+  pub view-decode : (t : ℕ) → 1 ≤ t → t ≤ views → view (decode l) t ≡ viewAt l t
+  unfolding decode view
+  view-decode t a b = nth-listTo (viewAt l) views t noView a b
+
+  pub server-decode : (s : ℕ) → 1 ≤ s → s ≤ servers → server (decode l) s ≡ serverAt l s
+  unfolding decode server
+  server-decode s a b = nth-listTo (serverAt l) servers s noServer a b
+
+  pub client-decode : (c : ℕ) → 1 ≤ c → c ≤ clients → client (decode l) c ≡ clientAt l c
+  unfolding decode client
+  client-decode c a b = nth-listTo (clientAt l) clients c noClient a b
+
+  pub message-decode : (n : ℕ) → n ≤ messages → message (decode l) n ≡ messageAt l n
+  unfolding decode message
+  message-decode zero b = refl
+  message-decode (suc n) b =
+      getD-cons (messageAt l 0) (listTo (messageAt l) messages) (suc n) noMessage (omega arith)
+      ∙ nth-listTo (messageAt l) messages (suc n) noMessage (omega arith) b
+
+-- ---- a record replaced
+
+module _ (w : World) (h : Full w) where
+  pub full-view : (t : ℕ) (v : View) → Full (withView w t v)
+  unfolding withView
+  full-view t v = record { views = length-replace (w .viewList) t v ∙ h .views; servers = h .servers; clients = h .clients; messages = h .messages }
+
+  pub full-server : (s : ℕ) (v : Server) → Full (withServer w s v)
+  unfolding withServer
+  full-server s v = record { views = h .views; servers = length-replace (w .serverList) s v ∙ h .servers; clients = h .clients; messages = h .messages }
+
+  pub full-client : (c : ℕ) (v : Client) → Full (withClient w c v)
+  unfolding withClient
+  full-client c v = record { views = h .views; servers = h .servers; clients = length-replace (w .clientList) c v ∙ h .clients; messages = h .messages }
+
+  pub full-message : (n : ℕ) (v : Message) → Full (withMessage w n v)
+  unfolding withMessage
+  full-message n v = record { views = h .views; servers = h .servers; clients = h .clients; messages = length-set (w .messageList) n v ∙ h .messages }
+
+  pub full-administrator : (a : Administrator) → Full (withAdministrator w a)
+  unfolding withAdministrator
+  full-administrator a = record { views = h .views; servers = h .servers; clients = h .clients; messages = h .messages }
+
+  pub full-used : (n : ℕ) → Full (withUsed w n)
+  unfolding withUsed
+  full-used n = record { views = h .views; servers = h .servers; clients = h .clients; messages = h .messages }
+
+  pub full-send : (m : Message) → Full (send w m)
+  unfolding send
+  full-send m = record { views = h .views; servers = h .servers; clients = h .clients; messages = length-set (w .messageList) (w .used + 1) m ∙ h .messages }
+
+module _ (w : World) (h : Storable w) where
+  pub storable-view : (t : ℕ) (v : View) → ViewFits v → Storable (withView w t v)
+  unfolding withView view server client message
+  storable-view t v f =
+      record {
+        full = full-view w (h .full) t v;
+        used = h .used;
+        administrator = h .administrator;
+        view = λ k a b.
+            ⊎-elim (λ e. rw e f) (λ e. rw e (h .view k a b)) (nth-replace (w .viewList) t k v noView a (omega (arith, h .full .views)));
+        server = h .server;
+        client = h .client;
+        message = h .message;
+      }
+
+  pub storable-server : (s : ℕ) (v : Server) → ServerFits v → Storable (withServer w s v)
+  unfolding withServer view server client message
+  storable-server s v f =
+      record {
+        full = full-server w (h .full) s v;
+        used = h .used;
+        administrator = h .administrator;
+        view = h .view;
+        server = λ k a b.
+            ⊎-elim (λ e. rw e f) (λ e. rw e (h .server k a b)) (nth-replace (w .serverList) s k v noServer a (omega (arith, h .full .servers)));
+        client = h .client;
+        message = h .message;
+      }
+
+  pub storable-client : (c : ℕ) (v : Client) → ClientFits v → Storable (withClient w c v)
+  unfolding withClient view server client message
+  storable-client c v f =
+      record {
+        full = full-client w (h .full) c v;
+        used = h .used;
+        administrator = h .administrator;
+        view = h .view;
+        server = h .server;
+        client = λ k a b.
+            ⊎-elim (λ e. rw e f) (λ e. rw e (h .client k a b)) (nth-replace (w .clientList) c k v noClient a (omega (arith, h .full .clients)));
+        message = h .message;
+      }
+
+  pub storable-message : (n : ℕ) (v : Message) → MessageFits v → Storable (withMessage w n v)
+  unfolding withMessage view server client message
+  storable-message n v f =
+      record {
+        full = full-message w (h .full) n v;
+        used = h .used;
+        administrator = h .administrator;
+        view = h .view;
+        server = h .server;
+        client = h .client;
+        message = λ k b.
+            ⊎-elim (λ e. rw e f) (λ e. rw e (h .message k b)) (getD-set (w .messageList) n k v noMessage (omega (arith, h .full .messages)));
+      }
+
+  pub storable-administrator : (a : Administrator) → AdministratorFits a → Storable (withAdministrator w a)
+  unfolding withAdministrator view server client message
+  storable-administrator a f =
+      record {
+        full = full-administrator w (h .full) a;
+        used = h .used;
+        administrator = f;
+        view = h .view;
+        server = h .server;
+        client = h .client;
+        message = h .message;
+      }
+
+  pub storable-used : (n : ℕ) → n < 2 ^ 16 → Storable (withUsed w n)
+  unfolding withUsed view server client message
+  storable-used n f =
+      record {
+        full = full-used w (h .full) n;
+        used = f;
+        administrator = h .administrator;
+        view = h .view;
+        server = h .server;
+        client = h .client;
+        message = h .message;
+      }
+
+  pub storable-send : (m : Message) → MessageFits m → w .used < messages → Storable (send w m)
+  unfolding send view server client message
+  storable-send m f l =
+      record {
+        full = full-send w (h .full) m;
+        used = omega arith;
+        administrator = h .administrator;
+        view = h .view;
+        server = h .server;
+        client = h .client;
+        message = λ k b.
+            ⊎-elim (λ e. rw e f) (λ e. rw e (h .message k b)) (getD-set (w .messageList) (w .used + 1) k m noMessage (omega (arith, h .full .messages)));
+      }

@@ -1,0 +1,9 @@
+pub mod Layout
+pub mod Lists
+pub mod Bytes
+pub mod Records
+pub mod Places
+pub mod Images
+pub mod Laws
+pub mod Spelling
+pub mod Whole

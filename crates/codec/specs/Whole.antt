@@ -1,0 +1,162 @@
+-- An image whose records are plain is the image of the world that it spells. Assumes nothing.
+use mathlib.Core.Path.{_≡_, refl, sym, ap, _∙_}
+use mathlib.Core.Bool.{Bool, true, false, _&&_}
+use mathlib.Core.List.{List, [], _∷_, _++_}
+use Prim.Native.Nat.{ℕ, zero, suc, _+_, _*_, _-_, _≤_, _<_}
+use native.Mathlib.Nat.{zero-mul, suc-mul, mul-suc, mul-zero, not-suc-le-zero, le-of-suc-le-suc}
+use native.Mathlib.Omega.{arith}
+use native.Mathlib.Decide.{decLt}
+use lib.ListN.{length, getD, take, drop, length-take, List·getD-eq-default}
+use lib.Seq.{take-all}
+use lib.Dec.{lit<}
+use Rattle.protocol.specs.Tools.{allTo}
+use Rattle.protocol.specs.Sizes.{clients, servers, views, messages}
+use Rattle.protocol.specs.Worlds.{listTo}
+use Rattle.codec.specs.Layout.{imageSize, headerWidth, viewWidth, serverWidth, clientWidth, messageWidth, viewsAt, serversAt, clientsAt, messagesAt, viewPlace, serverPlace, clientPlace, messagePlace}
+use Rattle.codec.specs.Lists.{part, flat, length-part, getD-part, part-add}
+use Rattle.codec.specs.Bytes.{Bytes}
+use Rattle.codec.specs.Records.{viewOf, viewBytes, serverOf, serverBytes, clientOf, clientBytes, messageOf, messageBytes, headerBytes, administratorOf}
+use Rattle.codec.specs.Places.{usedAt, administratorAt, viewAt, serverAt, clientAt, messageAt}
+use Rattle.codec.specs.Images.{encode, decode}
+use Rattle.codec.specs.Laws.{decode-full, part-header, part-view, part-server, part-client, part-message, view-decode, server-decode, client-decode, message-decode}
+use Rattle.codec.specs.Spelling.{both, join, headerPlain, viewPlain, serverPlain, clientPlain, messagePlain, headerOf, header-plain, plain-header, view-plain, plain-view, server-plain, plain-server, client-plain, plain-client, message-plain, plain-message}
+
+-- ---- all the numbers 1 to n
+
+pub all-at : (p : ℕ → Bool) (n k : ℕ) → allTo p n ≡ true → 1 ≤ k → k ≤ n → p k ≡ true
+unfolding allTo
+all-at p zero k e l m = absurd (omega arith)
+all-at p (suc n) k e l m =
+    let q = both (allTo p n) (p (suc n)) e in
+    elim (decLt k (suc n)) [ yes h ↦ all-at p n k (q .0) l (le-of-suc-le-suc h) | no h ↦ rw (let s : k ≡ suc n = omega arith in s) (q .1) ]
+
+pub all-of : (p : ℕ → Bool) (n : ℕ) → ((k : ℕ) → 1 ≤ k → k ≤ n → p k ≡ true) → allTo p n ≡ true
+unfolding allTo
+all-of p zero h = refl
+all-of p (suc n) h = join (all-of p n (λ k l m. h k l (omega arith))) (h (suc n) (omega arith) (omega arith))
+
+-- ---- the tests of an image
+
+abbrev pub viewPlainAt : List ℕ → ℕ → Bool
+viewPlainAt l t = viewPlain (part l (viewPlace t) viewWidth)
+
+abbrev pub serverPlainAt : List ℕ → ℕ → Bool
+serverPlainAt l s = serverPlain (part l (serverPlace s) serverWidth)
+
+abbrev pub clientPlainAt : List ℕ → ℕ → Bool
+clientPlainAt l c = clientPlain (part l (clientPlace c) clientWidth)
+
+abbrev pub messagePlainAt : List ℕ → ℕ → Bool
+messagePlainAt l n = messagePlain (part l (messagePlace n) messageWidth)
+
+-- "every field has its stated value": spare bytes, flags and the version
+pub record Plain (l : List ℕ) : Type 0 where
+  pub header : headerPlain (part l 0 headerWidth) ≡ true
+  pub view : (t : ℕ) → 1 ≤ t → t ≤ views → viewPlainAt l t ≡ true
+  pub server : (s : ℕ) → 1 ≤ s → s ≤ servers → serverPlainAt l s ≡ true
+  pub client : (c : ℕ) → 1 ≤ c → c ≤ clients → clientPlainAt l c ≡ true
+  pub message : (n : ℕ) → n ≤ messages → messagePlainAt l n ≡ true
+
+-- ---- records read one after another and written out again
+
+part-none : (l : List ℕ) (at : ℕ) → part l at 0 ≡ []
+unfolding part
+part-none l at = refl
+
+rejoin : {A : Type 0} (f : A → List ℕ) (g : ℕ → A) (l : List ℕ) (w at n : ℕ)
+    → ((k : ℕ) → 1 ≤ k → k ≤ n → f (g k) ≡ part l (at + w * (k - 1)) w)
+    → flat f (listTo g n) ≡ part l at (n * w)
+unfolding flat listTo
+rejoin f g l w at zero h = rw zero-mul (sym (part-none l at))
+rejoin f g l w at (suc n) h =
+    let e1 : at + w * (1 - 1) ≡ at = omega (arith, mul-zero w) in
+    let e2 : suc n * w ≡ w + n * w = omega (arith, suc-mul n w) in
+    rw (e2, part-add l at w (n * w))
+    (ap (λ (r : List ℕ). r ++ flat f (listTo (λ i. g (suc i)) n)) (h 1 (omega arith) (omega arith) ∙ ap (λ (k : ℕ). part l k w) e1)
+    ∙ ap (λ (r : List ℕ). part l at w ++ r) (rejoin f (λ i. g (suc i)) l w (at + w) n (λ k a b. h (suc k) (omega arith) (omega arith) ∙ ap (λ (j : ℕ). part l j w) (shift k a))))
+  where
+    shift : (k : ℕ) → 1 ≤ k → at + w * (suc k - 1) ≡ at + w + w * (k - 1)
+    shift zero a = absurd (not-suc-le-zero a)
+    shift (suc k) a =
+        let x : suc (suc k) - 1 ≡ suc k = omega arith in
+        let y : suc k - 1 ≡ k = omega arith in
+        rw (x, y) (omega (arith, mul-suc w k))
+
+short : (l : List ℕ) (a n i : ℕ) → (i < n → ⊥) → length (part l a n) ≤ i
+unfolding part
+short l a n i h = simp length-take (omega arith)
+
+bytes-part : (l : List ℕ) (a n : ℕ) → Bytes l → Bytes (part l a n)
+bytes-part l a n y i =
+    elim (decLt i n) [ yes h ↦ rw (getD-part l a n i h) (y (a + i)) | no h ↦ rw (List·getD-eq-default (part l a n) 0 (short l a n i h)) (omega arith) ]
+
+all : (l : List ℕ) → length l ≡ imageSize → part l 0 21648 ≡ l
+unfolding part
+all l s = take-all 21648 l (omega arith)
+
+whole : (l : List ℕ) → length l ≡ imageSize
+    → part l 0 16 ++ (part l 16 256 ++ (part l 272 640 ++ (part l 912 256 ++ (part l 1168 20 ++ part l 1188 20460)))) ≡ l
+whole l s =
+    sym
+    (sym (all l s)
+    ∙ part-add l 0 16 21632
+    ∙ ap (λ (r : List ℕ). part l 0 16 ++ r)
+    (part-add l 16 256 21376
+    ∙ ap (λ (r : List ℕ). part l 16 256 ++ r)
+    (part-add l 272 640 20736
+    ∙ ap (λ (r : List ℕ). part l 272 640 ++ r)
+    (part-add l 912 256 20480 ∙ ap (λ (r : List ℕ). part l 912 256 ++ r) (part-add l 1168 20 20460)))))
+
+header-same : (l : List ℕ) → headerBytes (usedAt l) (administratorAt l) ≡ headerOf (part l 0 16)
+unfolding usedAt administratorAt administratorOf
+header-same l =
+    rw (
+      getD-part l 0 16 2 (lit< tt),
+      getD-part l 0 16 3 (lit< tt),
+      getD-part l 0 16 4 (lit< tt),
+      getD-part l 0 16 5 (lit< tt),
+      getD-part l 0 16 6 (lit< tt),
+      getD-part l 0 16 7 (lit< tt),
+      getD-part l 4 4 0 (lit< tt),
+      getD-part l 4 4 1 (lit< tt),
+      getD-part l 4 4 2 (lit< tt),
+      getD-part l 4 4 3 (lit< tt),
+    )
+
+head : (l : List ℕ) → headerBytes (decode l .used) (decode l .administrator) ≡ headerOf (part l 0 16)
+unfolding decode
+head l = header-same l
+
+-- the image of the world that it spells
+pub encode-decode : (l : List ℕ) → length l ≡ imageSize → Bytes l → Plain l → encode (decode l) ≡ l
+unfolding encode decode flat viewAt serverAt clientAt messageAt
+encode-decode l s y p =
+    let size : (a n : ℕ) → a + n ≤ imageSize → length (part l a n) ≡ n = λ a n h. length-part l a n (omega arith) in
+    let eh = header-same l ∙ header-plain (part l 0 16) (size 0 16 (omega arith)) (bytes-part l 0 16 y) (p .header) in
+    let ev = rejoin viewBytes (viewAt l) l viewWidth viewsAt views
+    (λ k a b. view-plain (part l (viewPlace k) 8) (size (viewPlace k) 8 (omega arith)) (bytes-part l (viewPlace k) 8 y) (p .view k a b)) in
+    let es = rejoin serverBytes (serverAt l) l serverWidth serversAt servers
+    (λ k a b. server-plain (part l (serverPlace k) 20) (size (serverPlace k) 20 (omega arith)) (bytes-part l (serverPlace k) 20 y) (p .server k a b)) in
+    let ec = rejoin clientBytes (clientAt l) l clientWidth clientsAt clients
+    (λ k a b. client-plain (part l (clientPlace k) 16) (size (clientPlace k) 16 (omega arith)) (bytes-part l (clientPlace k) 16 y) (p .client k a b)) in
+    let e0 = message-plain (part l 1168 20) (size 1168 20 (omega arith)) (bytes-part l 1168 20 y) (p .message 0 (omega arith)) in
+    let em = rejoin messageBytes (messageAt l) l messageWidth 1188 messages
+    (λ k a b. message-plain (part l (messagePlace k) 20) (size (messagePlace k) 20 (omega arith)) (bytes-part l (messagePlace k) 20 y) (p .message k b) ∙ ap (λ (j : ℕ). part l j 20) (let q : messagePlace k ≡ 1188 + 20 * (k - 1) = omega arith in q)) in
+    rw (eh, ev, es, ec, e0, em) (whole l s)
+
+-- and only then
+pub plain-image : (l : List ℕ) → encode (decode l) ≡ l → Plain l
+unfolding viewAt serverAt clientAt messageAt
+plain-image l e =
+    let f = decode-full l in
+    let back : (a n : ℕ) → part l a n ≡ part (encode (decode l)) a n = λ a n. ap (λ (i : List ℕ). part i a n) (sym e) in
+    record {
+      header = plain-header (part l 0 16) (sym (back 0 16 ∙ part-header (decode l) ∙ head l));
+      view = λ t a b. plain-view (part l (viewPlace t) 8) (sym (back (viewPlace t) 8 ∙ part-view (decode l) f t a b ∙ ap viewBytes (view-decode l t a b)));
+      server = λ s a b.
+          plain-server (part l (serverPlace s) 20) (sym (back (serverPlace s) 20 ∙ part-server (decode l) f s a b ∙ ap serverBytes (server-decode l s a b)));
+      client = λ c a b.
+          plain-client (part l (clientPlace c) 16) (sym (back (clientPlace c) 16 ∙ part-client (decode l) f c a b ∙ ap clientBytes (client-decode l c a b)));
+      message = λ n b.
+          plain-message (part l (messagePlace n) 20) (sym (back (messagePlace n) 20 ∙ part-message (decode l) f n b ∙ ap messageBytes (message-decode l n b)));
+    }

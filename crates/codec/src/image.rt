@@ -1,0 +1,163 @@
+// The records of a lent image by their numbers.
+ghost use mathlib.Core.Path.{_≡_};
+ghost use Prim.Native.Nat.{_≤_};
+ghost use lib.ListN.{length};
+ghost use Rattle.protocol.specs.Sizes.{clients, servers, views, messages};
+ghost use Rattle.codec.specs.Layout.{imageSize};
+ghost use Rattle.codec.specs.Places.{usedAt, putUsed, administratorAt, putAdministrator, viewAt, putView, serverAt, putServer, clientAt, putClient, messageAt, putMessage};
+use super::bytes::half2;
+use super::bytes::put_bytes;
+use super::records::administrator_bytes;
+use super::records::client_head;
+use super::records::entry_bytes;
+use super::records::message_head;
+use super::records::read_administrator;
+use super::records::read_client;
+use super::records::read_message;
+use super::records::read_server;
+use super::records::read_view;
+use super::records::server_head;
+use super::records::view_bytes;
+use protocol::Administrator;
+use protocol::Client;
+use protocol::Message;
+use protocol::MessageNumber;
+use protocol::Server;
+use protocol::ServerNumber;
+use protocol::View;
+use protocol::ViewNumber;
+
+pub const VIEW: usize = 8;
+
+pub const SERVER: usize = 20;
+
+pub const CLIENT: usize = 16;
+
+pub const MESSAGE: usize = 20;
+
+pub const USED_AT: usize = 2;
+
+pub const ADMINISTRATOR_AT: usize = 4;
+
+pub const VIEWS_AT: usize = 16;
+
+pub const SERVERS_AT: usize = VIEWS_AT + 32 * VIEW;
+
+pub const CLIENTS_AT: usize = SERVERS_AT + 32 * SERVER;
+
+pub const MESSAGES_AT: usize = CLIENTS_AT + 16 * CLIENT;
+
+pub const IMAGE: usize = MESSAGES_AT + 1024 * MESSAGE;
+
+// Messages used.
+pub fn load_used(image: &[u8]) -> u16
+    requires { ⌜ length (now image) ≡ imageSize ⌝ }
+    ensures { λ r. ⌜ r ≡ usedAt (now (image .entry)) ⌝ }
+{
+    half2(image[USED_AT], image[USED_AT + 1])
+}
+
+pub fn store_used(image: &mut [u8], n: u16)
+    requires { ⌜ length (now image) ≡ imageSize ⌝ }
+    ensures { λ _. ⌜ now (image .exit) ≡ putUsed (now (image .entry)) n ⌝ }
+{
+    let b = [(n % 256) as u8, (n / 256 % 256) as u8];
+    put_bytes(image, USED_AT, &b);
+}
+
+pub fn load_administrator(image: &[u8]) -> Administrator
+    requires { ⌜ length (now image) ≡ imageSize ⌝ }
+    ensures { λ r. ⌜ r ≡ administratorAt (now (image .entry)) ⌝ }
+{
+    read_administrator(&image[ADMINISTRATOR_AT..ADMINISTRATOR_AT + 4])
+}
+
+pub fn store_administrator(image: &mut [u8], a: Administrator)
+    requires { ⌜ length (now image) ≡ imageSize ⌝ }
+    ensures { λ _. ⌜ now (image .exit) ≡ putAdministrator (now (image .entry)) a ⌝ }
+{
+    let b = administrator_bytes(a);
+    put_bytes(image, ADMINISTRATOR_AT, &b);
+}
+
+pub fn load_view(image: &[u8], t: ViewNumber) -> View
+    requires { ⌜ (length (now image) ≡ imageSize) × (1 ≤ t .0) × (t .0 ≤ views) ⌝ }
+    ensures { λ r. ⌜ r ≡ viewAt (now (image .entry)) (t .0) ⌝ }
+{
+    let n = t.0;
+    let at = VIEWS_AT + VIEW * (n as usize - 1);
+    read_view(&image[at..at + VIEW])
+}
+
+pub fn store_view(image: &mut [u8], t: ViewNumber, v: View)
+    requires { ⌜ (length (now image) ≡ imageSize) × (1 ≤ t .0) × (t .0 ≤ views) ⌝ }
+    ensures { λ _. ⌜ now (image .exit) ≡ putView (now (image .entry)) (t .0) v ⌝ }
+{
+    let n = t.0;
+    let b = view_bytes(v);
+    put_bytes(image, VIEWS_AT + VIEW * (n as usize - 1), &b);
+}
+
+pub fn load_server(image: &[u8], s: ServerNumber) -> Server
+    requires { ⌜ (length (now image) ≡ imageSize) × (1 ≤ s .0) × (s .0 ≤ servers) ⌝ }
+    ensures { λ r. ⌜ r ≡ serverAt (now (image .entry)) (s .0) ⌝ }
+{
+    let n = s.0;
+    let at = SERVERS_AT + SERVER * (n as usize - 1);
+    read_server(&image[at..at + SERVER])
+}
+
+pub fn store_server(image: &mut [u8], s: ServerNumber, v: Server)
+    requires { ⌜ (length (now image) ≡ imageSize) × (1 ≤ s .0) × (s .0 ≤ servers) ⌝ }
+    ensures { λ _. ⌜ now (image .exit) ≡ putServer (now (image .entry)) (s .0) v ⌝ }
+{
+    let n = s.0;
+    let at = SERVERS_AT + SERVER * (n as usize - 1);
+    let head = server_head(v);
+    let entry = v.entry;
+    let tail = entry_bytes(entry);
+    put_bytes(image, at, &head);
+    put_bytes(image, at + 8, &tail);
+}
+
+pub fn load_client(image: &[u8], c: u8) -> Client
+    requires { ⌜ (length (now image) ≡ imageSize) × (1 ≤ c) × (c ≤ clients) ⌝ }
+    ensures { λ r. ⌜ r ≡ clientAt (now (image .entry)) c ⌝ }
+{
+    let at = CLIENTS_AT + CLIENT * (c as usize - 1);
+    read_client(&image[at..at + CLIENT])
+}
+
+pub fn store_client(image: &mut [u8], c: u8, v: Client)
+    requires { ⌜ (length (now image) ≡ imageSize) × (1 ≤ c) × (c ≤ clients) ⌝ }
+    ensures { λ _. ⌜ now (image .exit) ≡ putClient (now (image .entry)) c v ⌝ }
+{
+    let at = CLIENTS_AT + CLIENT * (c as usize - 1);
+    let head = client_head(v);
+    let entry = v.entry;
+    let tail = entry_bytes(entry);
+    put_bytes(image, at, &head);
+    put_bytes(image, at + 4, &tail);
+}
+
+pub fn load_message(image: &[u8], n: MessageNumber) -> Message
+    requires { ⌜ (length (now image) ≡ imageSize) × (n .0 ≤ messages) ⌝ }
+    ensures { λ r. ⌜ r ≡ messageAt (now (image .entry)) (n .0) ⌝ }
+{
+    let k = n.0;
+    let at = MESSAGES_AT + MESSAGE * (k as usize);
+    read_message(&image[at..at + MESSAGE])
+}
+
+pub fn store_message(image: &mut [u8], n: MessageNumber, m: Message)
+    requires { ⌜ (length (now image) ≡ imageSize) × (n .0 ≤ messages) ⌝ }
+    ensures { λ _. ⌜ now (image .exit) ≡ putMessage (now (image .entry)) (n .0) m ⌝ }
+{
+    let k = n.0;
+    let at = MESSAGES_AT + MESSAGE * (k as usize);
+    let head = message_head(m);
+    let entry = m.entry;
+    let tail = entry_bytes(entry);
+    put_bytes(image, at, &head);
+    put_bytes(image, at + 8, &tail);
+}

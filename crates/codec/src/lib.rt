@@ -1,0 +1,4 @@
+// The records of the archive as bytes of a lent image.
+pub mod bytes;
+pub mod image;
+pub mod records;

@@ -1,0 +1,28 @@
+use mathlib.Core.Path.{sym, _∙_}
+use borrow.Author.Needs.{needs}
+use borrow.Author.Tests.{not-true, not-false}
+use Rattle.protocol.specs.Tools.{guard}
+use Rattle.protocol.specs.Clients.{close}
+use Rattle.machines.proofs.clients.close_read.Statement.{statement}
+use Rattle.machines.proofs.clients.close_read.Tie as tie
+
+count-left-requires : tie.Need-count-left-requires
+count-left-requires c κs = search needs
+
+returns : tie.Need-returns
+unfolding guard
+returns c = simp (sym (c .before .count-left .ensures) ∙ not-true (c .before .count-left .result) (c .if1 .taken))
+
+to-write-requires : tie.Need-to-write-requires
+to-write-requires c κs = sym (c .before .count-left .ensures) ∙ not-false (c .before .count-left .result) (c .if1 .left)
+
+returns-2 : tie.Need-returns-2
+unfolding guard
+returns-2 c =
+    simp (
+      c .to-write .ensures,
+      sym (c .before .before .count-left .ensures) ∙ not-false (c .before .before .count-left .result) (c .before .if1 .left),
+    )
+
+pub close-read-spec : {M : Type 1} → statement M
+close-read-spec = tie.close (tie.spec count-left-requires returns to-write-requires returns-2)

@@ -1,0 +1,20 @@
+use borrow.Author.Needs.{needs}
+use Rattle.protocol.specs.Servers.{gathering}
+use Rattle.protocol.specs.Clients.{close}
+use Rattle.machines.specs.Bits.{bit-in}
+use Rattle.machines.proofs.servers.gathering.Statement.{statement}
+use Rattle.machines.proofs.servers.gathering.Tie as tie
+
+bit-of-requires : tie.Need-bit-of-requires
+bit-of-requires c κs = search needs
+
+returns : tie.Need-returns
+unfolding gathering
+returns c =
+    simp (
+      c .before .bit-of .ensures,
+      bit-in _ (c .before .before .before .before .before .pre),
+    )
+
+pub gathering-spec : {M : Type 1} → statement M
+gathering-spec = tie.close (tie.spec bit-of-requires returns)

@@ -1,0 +1,25 @@
+use borrow.Author.Needs.{needs}
+use Rattle.protocol.specs.Entries.{larger}
+use Rattle.protocol.specs.Servers.{joining}
+use Rattle.protocol.specs.Clients.{close}
+use Rattle.machines.specs.Bits.{bit-in}
+use Rattle.machines.proofs.servers.joining.Statement.{statement}
+use Rattle.machines.proofs.servers.joining.Tie as tie
+
+larger-requires : tie.Need-larger-requires
+larger-requires c κs = search needs
+
+bit-of-requires : tie.Need-bit-of-requires
+bit-of-requires c κs = search needs
+
+returns : tie.Need-returns
+unfolding joining
+returns c =
+    simp (
+      c .bit-of .ensures,
+      c .before .larger .ensures,
+      bit-in _ (c .before .before .before .before .before .pre),
+    )
+
+pub joining-spec : {M : Type 1} → statement M
+joining-spec = tie.close (tie.spec larger-requires bit-of-requires returns)

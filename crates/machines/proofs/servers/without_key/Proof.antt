@@ -1,0 +1,12 @@
+use mathlib.Core.Path.{refl}
+use Rattle.protocol.specs.Servers.{withoutKey}
+use Rattle.protocol.specs.Clients.{close}
+use Rattle.machines.proofs.servers.without_key.Statement.{statement}
+use Rattle.machines.proofs.servers.without_key.Tie as tie
+
+returns : tie.Need-returns
+unfolding withoutKey
+returns c = refl
+
+pub without-key-spec : {M : Type 1} → statement M
+without-key-spec = tie.close (tie.spec returns)

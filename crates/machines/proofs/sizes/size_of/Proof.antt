@@ -1,0 +1,13 @@
+use borrow.Author.Needs.{needs}
+use Rattle.protocol.specs.Sizes.{size}
+use Rattle.protocol.specs.Clients.{close}
+use Rattle.machines.specs.Bits.{ones-size}
+use Rattle.machines.proofs.sizes.size_of.Statement.{statement}
+use Rattle.machines.proofs.sizes.size_of.Tie as tie
+
+returns : tie.Need-returns
+unfolding size
+returns c = ones-size (c .before .args .v .members) (search needs)
+
+pub size-of-spec : {M : Type 1} → statement M
+size-of-spec = tie.close (tie.spec returns)

@@ -1,0 +1,69 @@
+// The rules of the administrator.
+use super::sizes;
+use protocol::Administrator;
+use protocol::Called;
+use protocol::Ending;
+use protocol::MessageNumber;
+use protocol::View;
+use protocol::ViewNumber;
+ghost use mathlib.Core.Path.{_≡_};
+ghost use Rattle.protocol.specs.Clients.{isEnding, endOf, call, called};
+ghost use Rattle.machines.specs.Clients.{advanceIn};
+
+// Whether the newest view is being ended.
+pub fn is_ending(e: Ending) -> bool
+    ensures { λ r. ⌜ r ≡ isEnding e ⌝ }
+{
+    match e {
+        Ending::Settled => false,
+        Ending::EndSent(_) => true,
+    }
+}
+
+// The END number; 0 unless ending.
+pub fn end_of(e: Ending) -> MessageNumber
+    ensures { λ r. ⌜ r .0 ≡ endOf e ⌝ }
+{
+    match e {
+        Ending::Settled => MessageNumber(0),
+        Ending::EndSent(r) => r,
+    }
+}
+
+// A new view is called: END of the newest is sent, number n. 4, ending; 8, size rule broken or newest is 32.
+pub fn call(a: Administrator, v: View, n: MessageNumber) -> Called
+    ensures { λ r. ⌜ called r ≡ call a v (n .0) ⌝ }
+{
+    let newest = a.newest;
+    let ending = a.ending;
+    let busy = is_ending(ending);
+    if busy {
+        return Called::CallRefused(4);
+    }
+    let fits = sizes::sized(v);
+    if !fits {
+        return Called::CallRefused(8);
+    }
+    if 32 <= newest.0 {
+        return Called::CallRefused(8);
+    }
+    Called::Calling(Administrator {
+        newest: newest,
+        ending: Ending::EndSent(n),
+    })
+}
+
+// END closes: the next view becomes the newest. 3, there is no view after it.
+pub fn advance(a: Administrator) -> Called
+    ensures { λ r. ⌜ called r ≡ advanceIn a ⌝ }
+{
+    let newest = a.newest;
+    if 32 <= newest.0 {
+        return Called::CallRefused(3);
+    }
+    let next = ViewNumber(newest.0 + 1);
+    Called::Calling(Administrator {
+        newest: next,
+        ending: Ending::Settled,
+    })
+}

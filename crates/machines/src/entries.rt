@@ -1,0 +1,65 @@
+// Entries and their stamps.
+use protocol::Entry;
+use protocol::Stamp;
+use protocol::StampCount;
+ghost use mathlib.Core.Path.{_≡_};
+ghost use Rattle.protocol.specs.Entries.{entry, larger, same, entryFits};
+
+// The entry of a count, a writer and a value.
+pub fn entry_of(count: u32, writer: u8, value: u32) -> Entry
+    ensures { λ r. ⌜ r ≡ entry count writer value ⌝ }
+{
+    let stamp = Stamp {
+        count: StampCount(count),
+        writer: writer,
+    };
+    Entry {
+        stamp: stamp,
+        value: value,
+    }
+}
+
+// The larger stamp of two; a where the stamps are equal.
+pub fn larger(a: Entry, b: Entry) -> Entry
+    ensures { λ r. ⌜ r ≡ larger a b ⌝ }
+{
+    let x = a.stamp;
+    let y = b.stamp;
+    let m = x.count;
+    let n = y.count;
+    if m.0 < n.0 {
+        return b;
+    }
+    if n.0 < m.0 {
+        return a;
+    }
+    if x.writer < y.writer {
+        return b;
+    }
+    a
+}
+
+// Whether two entries agree in every field.
+pub fn same(a: Entry, b: Entry) -> bool
+    ensures { λ r. ⌜ r ≡ same a b ⌝ }
+{
+    let x = a.stamp;
+    let y = b.stamp;
+    let m = x.count;
+    let n = y.count;
+    if m.0 != n.0 {
+        return false;
+    }
+    if x.writer != y.writer {
+        return false;
+    }
+    a.value == b.value
+}
+
+// The ranges of an entry's fields: a writer is at most 16.
+pub fn entry_fits(e: Entry) -> bool
+    ensures { λ r. ⌜ r ≡ entryFits e ⌝ }
+{
+    let stamp = e.stamp;
+    stamp.writer <= 16
+}

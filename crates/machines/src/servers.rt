@@ -1,0 +1,191 @@
+// The rules of one server.
+use super::entries;
+use super::sizes;
+use protocol::Entry;
+use protocol::Message;
+use protocol::Served;
+use protocol::Server;
+use protocol::Shown;
+use protocol::ViewNumber;
+ghost use mathlib.Core.Path.{_≡_};
+ghost use Prim.Native.Nat.{_≤_};
+ghost use Rattle.protocol.specs.Tools.{numberOf};
+ghost use Rattle.protocol.specs.Servers.{keeping, withoutKey, joining, gathering, start, served, mayAnswer};
+ghost use Rattle.machines.specs.Servers.{shownBy, answered, serveIn};
+
+// What a server answers with: its view and entry.
+pub fn shown_by(a: Server) -> Shown
+    ensures { λ r. ⌜ r ≡ shownBy a ⌝ }
+{
+    let view = a.view;
+    let entry = a.entry;
+    Shown {
+        view: view,
+        entry: entry,
+    }
+}
+
+// It keeps the larger stamp of its own and the written entry, its own where they are equal.
+pub fn keeping(a: Server, e: Entry) -> Server
+    ensures { λ r. ⌜ r ≡ keeping a e ⌝ }
+{
+    let view = a.view;
+    let own = a.entry;
+    let kept = entries::larger(own, e);
+    Server {
+        view: view,
+        faulty: a.faulty,
+        keys: a.keys,
+        entry: kept,
+    }
+}
+
+// It gives the key up.
+pub fn without_key(a: Server) -> Server
+    ensures { λ r. ⌜ r ≡ withoutKey a ⌝ }
+{
+    let view = a.view;
+    let own = a.entry;
+    Server {
+        view: view,
+        faulty: a.faulty,
+        keys: 0,
+        entry: own,
+    }
+}
+
+// It takes the view of a START and its key, drops any older key, and keeps the larger stamp.
+fn joining(a: Server, m: Message) -> Server
+    requires { ⌜ m .view .0 ≤ 32 ⌝ }
+    ensures { λ r. ⌜ r ≡ joining a m ⌝ }
+{
+    let view = m.view;
+    let own = a.entry;
+    let sent = m.entry;
+    let kept = entries::larger(own, sent);
+    let key = sizes::bit_of(view.0);
+    Server {
+        view: view,
+        faulty: a.faulty,
+        keys: key,
+        entry: kept,
+    }
+}
+
+// A faulty server gathers the key of a START; nothing else of its record changes.
+fn gathering(a: Server, m: Message) -> Server
+    requires { ⌜ m .view .0 ≤ 32 ⌝ }
+    ensures { λ r. ⌜ r ≡ gathering a m ⌝ }
+{
+    let view = a.view;
+    let own = a.entry;
+    let asked = m.view;
+    let key = sizes::bit_of(asked.0);
+    Server {
+        view: view,
+        faulty: a.faulty,
+        keys: a.keys | key,
+        entry: own,
+    }
+}
+
+// START of a view up to 32.
+fn start(a: Server, m: Message, member: bool) -> Served
+    requires { ⌜ m .view .0 ≤ 32 ⌝ }
+    ensures { λ r. ⌜ served r ≡ start a m member ⌝ }
+{
+    let view = a.view;
+    let asked = m.view;
+    if !member {
+        return Served::ServeRefused(7);
+    }
+    if asked.0 <= view.0 {
+        return Served::ServeRefused(7);
+    }
+    if a.faulty {
+        let held = sizes::holds(a.keys, asked.0);
+        if held {
+            return Served::ServeRefused(7);
+        }
+        return Served::Kept(gathering(a, m));
+    }
+    Served::Kept(joining(a, m))
+}
+
+// READ, WRITE, or any other kind as END, of a server that serves.
+fn answered(a: Server, m: Message) -> Served
+    ensures { λ r. ⌜ served r ≡ answered a m ⌝ }
+{
+    let kind = m.kind;
+    if kind == 1 {
+        return Served::Answered(a, shown_by(a));
+    }
+    if kind == 2 {
+        let sent = m.entry;
+        let kept = keeping(a, sent);
+        return Served::Answered(kept, shown_by(kept));
+    }
+    let view = a.view;
+    let asked = m.view;
+    if asked.0 != view.0 {
+        return Served::ServeRefused(7);
+    }
+    let left = without_key(a);
+    Served::Answered(left, shown_by(a))
+}
+
+// A message reaches a server; member says whether it is in the server set of the message's view. 3, a view over 32; 5, an
+// answer or no message; 6, the server is faulty and the kind is 1 to 3; 7, the server's rule does not apply.
+pub fn serve(a: Server, m: Message, member: bool) -> Served
+    ensures { λ r. ⌜ served r ≡ serveIn a m member ⌝ }
+{
+    let view = a.view;
+    let asked = m.view;
+    let kind = m.kind;
+    if 32 < asked.0 {
+        return Served::ServeRefused(3);
+    }
+    if kind < 1 {
+        return Served::ServeRefused(5);
+    }
+    if 4 < kind {
+        return Served::ServeRefused(5);
+    }
+    if kind == 4 {
+        return start(a, m, member);
+    }
+    if a.faulty {
+        return Served::ServeRefused(6);
+    }
+    let held = sizes::holds(a.keys, view.0);
+    if !held {
+        return Served::ServeRefused(7);
+    }
+    answered(a, m)
+}
+
+// Whether a faulty server may answer a request with view t: 0, or the refusal. 5, no request, or source, which says whether the
+// entry shown is the empty one or that of a WRITE sent, is false; 6, not faulty; 9, it lacks that key.
+pub fn may_answer(a: Server, t: ViewNumber, m: Message, source: bool) -> u8
+    ensures { λ r. ⌜ r ≡ numberOf (mayAnswer a (t .0) m source) ⌝ }
+{
+    let kind = m.kind;
+    if kind < 1 {
+        return 5;
+    }
+    if 3 < kind {
+        return 5;
+    }
+    if !source {
+        return 5;
+    }
+    let faulty = a.faulty;
+    if !faulty {
+        return 6;
+    }
+    let held = sizes::holds(a.keys, t.0);
+    if !held {
+        return 9;
+    }
+    0
+}

@@ -1,0 +1,86 @@
+use mathlib.Core.Path.{_≡_, sym, ap, ap₂, _∙_}
+use mathlib.Core.List.{List}
+use Prim.Native.Nat.{ℕ, _+_}
+use native.Mathlib.Omega.{arith}
+use borrow.Author.Tests.{not-true, not-false}
+use Rattle.world.specs.Delivers.{by, sent-low, tag-low, absent, deliver-no, deliver-kept, deliver-answers}
+use borrow.Author.Needs.{needs}
+use Rattle.world.proofs.servers.deliver.Statement.{statement}
+use Rattle.world.proofs.servers.deliver.Tie as tie
+
+present-requires : tie.Need-present-requires
+present-requires c κs = search needs
+
+same-length : tie.Need-same-length
+same-length c = search needs
+
+returns : tie.Need-returns
+returns c = absent (c .before .before .before .before .pre .0) (c .before .before .before .before .args .s .0) (c .before .before .before .before .args .n .0) (sym (c .before .present .ensures) ∙ not-true (c .before .present .result) (c .if1 .taken))
+
+load-message-requires : tie.Need-load-message-requires
+load-message-requires c κs = let d = c .before .before .before .before .before in (d .pre .0 .size, sent-low (d .pre .0) (d .args .n .0) (sym (c .before .before .present .ensures) ∙ not-false (c .before .before .present .result) (c .before .if1 .left)))
+
+load-server-requires : tie.Need-load-server-requires
+load-server-requires c κs = search needs
+
+is-member-requires : tie.Need-is-member-requires
+is-member-requires c κs = let d = c .before .before .before .before .before .before .before .before .before .before in (d .pre .0, tag-low (d .pre .0) (d .args .n .0) (c .before .before .before .before .load-message .result) (c .before .before .before .before .load-message .ensures) (sym (c .before .before .before .before .before .before .before .present .ensures) ∙ not-false (c .before .before .before .before .before .before .before .present .result) (c .before .before .before .before .before .before .if1 .left)))
+
+serve-requires : tie.Need-serve-requires
+serve-requires c κs = search needs
+
+enum-known-served : tie.Need-enum-known-served
+enum-known-served c = search needs
+
+enum-known-served-2 : tie.Need-enum-known-served-2
+enum-known-served-2 c = search needs
+
+store-server-requires : tie.Need-store-server-requires
+store-server-requires c κs = let d = c .before .before .before .before .before .before .before .before .before .before .before .before .before .before .before .before in (d .pre .0 .size, d .pre .1, d .pre .2)
+
+enum-known-served-3 : tie.Need-enum-known-served-3
+enum-known-served-3 c = search needs
+
+reply-requires : tie.Need-reply-requires
+reply-requires c κs = let d = c .before .before .before .before .before .before .before .before .before .before .before .before .before .before .before .before in (d .pre .0, d .pre .1, d .pre .2)
+
+same-length-2 : tie.Need-same-length-2
+same-length-2 c = search needs
+
+returns-2 : tie.Need-returns-2
+returns-2 c = let d = c .before .before .before .before .before .before .before .before .before .before .before .before .before .before .before in deliver-no (d .pre .0) (d .args .s .0) (d .args .n .0) (d .pre .1) (d .pre .2) (sym (c .before .before .before .before .before .before .before .before .before .before .before .before .present .ensures) ∙ not-false (c .before .before .before .before .before .before .before .before .before .before .before .before .present .result) (c .before .before .before .before .before .before .before .before .before .before .before .if1 .left)) (c .before .before .before .before .before .before .before .before .before .load-message .result) (c .before .before .before .before .before .before .before .load-server .result) (c .before .before .before .before .is-member .result) (c .before .before .before .serve .result) (c .before .before .before .before .before .before .before .before .before .load-message .ensures) (c .before .before .before .before .before .before .before .load-server .ensures) (c .before .before .before .before .is-member .ensures) (c .before .before .before .serve .ensures) _ (c .before .served .given .1)
+
+same-length-3 : tie.Need-same-length-3
+same-length-3 c = search needs
+
+returns-3 : tie.Need-returns-3
+returns-3 c = let d = c .before .before .before .before .before .before .before .before .before .before .before .before .before .before .before .before .before .before .before in deliver-kept (d .pre .0) (d .args .s .0) (d .args .n .0) (d .pre .1) (d .pre .2) (sym (c .before .before .before .before .before .before .before .before .before .before .before .before .before .before .before .before .present .ensures) ∙ not-false (c .before .before .before .before .before .before .before .before .before .before .before .before .before .before .before .before .present .result) (c .before .before .before .before .before .before .before .before .before .before .before .before .before .before .before .if1 .left)) (c .before .before .before .before .before .before .before .before .before .before .before .before .before .load-message .result) (c .before .before .before .before .before .before .before .before .before .before .before .load-server .result) (c .before .before .before .before .before .before .before .before .is-member .result) (c .before .before .before .before .before .before .before .serve .result) (c .before .before .before .before .before .before .before .before .before .before .before .before .before .load-message .ensures) (c .before .before .before .before .before .before .before .before .before .before .before .load-server .ensures) (c .before .before .before .before .before .before .before .before .is-member .ensures) (c .before .before .before .before .before .before .before .serve .ensures) _ _ (c .before .before .before .before .before .served2 .given .1) (c .before .before .store-server .ensures)
+
+same-length-4 : tie.Need-same-length-4
+same-length-4 c = search needs
+
+returns-4 : tie.Need-returns-4
+returns-4 c = let d = c .before .before .before .before .before .before .before .before .before .before .before .before .before .before .before .before .before .before .before in by (deliver-answers (d .pre .0) (d .args .s .0) (d .args .n .0) (d .pre .1) (d .pre .2) (sym (c .before .before .before .before .before .before .before .before .before .before .before .before .before .before .before .before .present .ensures) ∙ not-false (c .before .before .before .before .before .before .before .before .before .before .before .before .before .before .before .before .present .result) (c .before .before .before .before .before .before .before .before .before .before .before .before .before .before .before .if1 .left)) (c .before .before .before .before .before .before .before .before .before .before .before .before .before .load-message .result) (c .before .before .before .before .before .before .before .before .before .before .before .load-server .result) (c .before .before .before .before .before .before .before .before .is-member .result) (c .before .before .before .before .before .before .before .serve .result) (c .before .before .before .before .before .before .before .before .before .before .before .before .before .load-message .ensures) (c .before .before .before .before .before .before .before .before .before .before .before .load-server .ensures) (c .before .before .before .before .before .before .before .before .is-member .ensures) (c .before .before .before .before .before .before .before .serve .ensures) _ _ (c .before .before .before .before .before .served3 .given .1)) (c .before .before .reply .ensures)
+
+pub deliver-spec : {M : Type 1} → statement M
+deliver-spec =
+    tie.close
+    (tie.spec
+    present-requires
+    same-length
+    returns
+    load-message-requires
+    load-server-requires
+    is-member-requires
+    serve-requires
+    enum-known-served
+    enum-known-served-2
+    store-server-requires
+    enum-known-served-3
+    reply-requires
+    same-length-2
+    returns-2
+    same-length-3
+    returns-3
+    same-length-4
+    returns-4)

@@ -1,0 +1,24 @@
+use mathlib.Core.Path.{_≡_, sym, ap, ap₂, _∙_}
+use mathlib.Core.List.{List}
+use Prim.Native.Nat.{ℕ, _+_}
+use native.Mathlib.Omega.{arith}
+use borrow.Author.Tests.{not-true, not-false}
+use Rattle.world.specs.Delivers.{member-none, member-is}
+use borrow.Author.Needs.{needs}
+use Rattle.world.proofs.servers.is_member.Statement.{statement}
+use Rattle.world.proofs.servers.is_member.Tie as tie
+
+returns : tie.Need-returns
+returns c = let d = c .before .before in member-none (d .pre .0) (d .args .t .0) (d .args .s .0) (c .if1 .taken)
+
+load-view-requires : tie.Need-load-view-requires
+load-view-requires c κs = search needs
+
+holds-requires : tie.Need-holds-requires
+holds-requires c κs = search needs
+
+returns-2 : tie.Need-returns-2
+returns-2 c = let d = c .before .before .before .before in c .holds .ensures ∙ member-is (d .pre .0) (d .args .t .0) (d .args .s .0) (c .before .load-view .result) (omega (arith, c .before .before .if1 .left)) (d .pre .1) (c .before .load-view .ensures)
+
+pub is-member-spec : {M : Type 1} → statement M
+is-member-spec = tie.close (tie.spec returns load-view-requires holds-requires returns-2)

@@ -1,0 +1,46 @@
+-- A step's answer and the image that it leaves. Assumes nothing.
+use Prim.Native.Nat.{ℕ, _+_}
+use mathlib.Core.Bool.{Bool, true, false}
+use mathlib.Core.Path.{_≡_}
+use mathlib.Core.List.{List}
+use lib.ListN.{length}
+use Rattle.protocol.specs.declared.Message.{Message}
+use Rattle.protocol.specs.Tools.{Result, refused, done}
+use Rattle.protocol.specs.Worlds.{World}
+use Rattle.protocol.specs.Steps.{After}
+use Rattle.protocol.specs.Readable.{wellFormed}
+use Rattle.codec.specs.Layout.{imageSize}
+use Rattle.codec.specs.Places.{usedAt, putUsed, messageAt, putMessage}
+use Rattle.codec.specs.Images.{encode, decode}
+use Rattle.world.specs.declared.Stepped.{Stepped}
+use Rattle.world.specs.declared.Stepped.the-variants.{StepRefused, StepDone}
+
+-- the number and the value of each case of a step's answer: a refusal, or the client whose operation it completed, or 0
+abbrev pub stepped : Stepped → Result ℕ
+stepped (StepRefused n) = refused n
+stepped (StepDone c) = done c
+
+-- the same of a world's step
+abbrev pub answered : Result After → Result ℕ
+answered (refused n) = refused n
+answered (done a) = done (a .completed)
+
+-- "A refusal changes no byte"; else the image of the world after it
+abbrev pub leftBy : List ℕ → Result After → List ℕ
+leftBy l (refused n) = l
+leftBy l (done a) = encode (a .world)
+
+-- the image l of a readable world
+pub record Legible (l : List ℕ) : Type 0 where
+  pub size : length l ≡ imageSize
+  pub image : encode (decode l) ≡ l
+  pub formed : wellFormed (decode l) ≡ true
+
+-- a function on the image l answered r and left l′, as the step x of its world
+pub record Does (r : Stepped) (l l′ : List ℕ) (x : Result After) : Type 0 where
+  pub answer : stepped r ≡ answered x
+  pub image : l′ ≡ leftBy l x
+
+-- the message m is put at the number n, the last used
+unfoldable pub putSent : List ℕ → ℕ → Message → List ℕ
+putSent l n m = putMessage (putUsed l n) n m

@@ -1,0 +1,5 @@
+pub mod Images
+pub mod Stored
+pub mod Begins
+pub mod Delivers
+pub mod Checks

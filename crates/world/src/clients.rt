@@ -1,0 +1,41 @@
+// A client begins an operation.
+ghost use mathlib.Core.Path.{_≡_};
+ghost use Prim.Native.Nat.{_≤_};
+ghost use Rattle.protocol.specs.Sizes.{clients};
+ghost use Rattle.protocol.specs.Steps.{begins as beginsOn};
+ghost use Rattle.codec.specs.Images.{decode};
+ghost use Rattle.world.specs.Images.{Legible, Does};
+use codec::image::load_client;
+use codec::image::load_used;
+use codec::image::store_client;
+use machines::clients::begin;
+use machines::entries::entry_of;
+use protocol::Begun;
+use protocol::MessageNumber;
+use protocol::ViewNumber;
+use super::mail::request;
+use super::mail::send;
+use super::Stepped;
+
+// "Write, read: 4, client not idle; 10"
+pub fn begins(image: &mut [u8], c: u8, kind: u8, value: u32) -> Stepped
+    requires { ⌜ Legible (now image) × (1 ≤ c) × (c ≤ clients) ⌝ }
+    ensures { λ r. ⌜ Does r (now (image .entry)) (now (image .exit)) (beginsOn (decode (now (image .entry))) c kind value) ⌝ }
+{
+    let used = load_used(image);
+    let own = load_client(image, c);
+    let n = MessageNumber(used + 1);
+    let begun = begin(own, kind, value, n);
+    match begun {
+        Begun::BeginRefused(x) => Stepped::StepRefused(x),
+        Begun::Began(next) => {
+            if 1023 <= used {
+                return Stepped::StepRefused(10);
+            }
+            let read = request(1, c, ViewNumber(0), entry_of(0, 0, 0));
+            store_client(image, c, next);
+            send(image, n, read);
+            Stepped::StepDone(0)
+        }
+    }
+}

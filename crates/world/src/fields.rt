@@ -1,0 +1,104 @@
+// "Which fields each kind uses is one table", and check 3, which reads it.
+ghost use mathlib.Core.Path.{_≡_};
+ghost use mathlib.Core.Bool.{_&&_, _||_};
+ghost use Prim.Native.Nat.{_≤_, _<_};
+ghost use Rattle.protocol.specs.Tools.{if};
+ghost use Rattle.protocol.specs.Sizes.{clients, servers};
+ghost use Rattle.protocol.specs.Steps.{CLIENT, SERVER, uses as usesField, field as fieldOf, fieldsFit};
+use protocol::Step;
+
+// A flag for each field that a step may use; who is a client or a server.
+const CLIENT: u8 = 1;
+
+const SERVER: u8 = 2;
+
+const VIEW: u8 = 4;
+
+const F: u8 = 8;
+
+const MESSAGE: u8 = 16;
+
+const SOURCE: u8 = 32;
+
+const VALUE: u8 = 64;
+
+// The fields of each kind: write, read, deliver, take, fault, false answer, new view.
+const FIELDS: [u8; 8] = [
+    0,
+    CLIENT + VALUE,
+    CLIENT,
+    SERVER + MESSAGE,
+    MESSAGE,
+    SERVER,
+    SERVER + VIEW + MESSAGE + SOURCE,
+    F + VALUE,
+];
+
+// Whether a kind uses a field.
+fn uses(kind: u8, flag: u8) -> bool
+    requires { ⌜ (kind < 8) × (0 < flag) ⌝ }
+    ensures { λ r. ⌜ r ≡ usesField kind flag ⌝ }
+{
+    let at = kind as usize;
+    let row = FIELDS[at];
+    row / flag % 2 == 1
+}
+
+// A used field is in its range; "an unused field is zero".
+fn field(used: bool, low: u32, high: u32, x: u32) -> bool
+    ensures { λ r. ⌜ r ≡ fieldOf used low high x ⌝ }
+{
+    if used {
+        if x < low {
+            return false;
+        }
+        return x <= high;
+    }
+    x == 0
+}
+
+// who is a client, a server or unused.
+fn who_fits(kind: u8, who: u8) -> bool
+    requires { ⌜ kind < 8 ⌝ }
+    ensures { λ r. ⌜ r ≡ fieldOf (usesField kind CLIENT || usesField kind SERVER) 1 (if (usesField kind CLIENT) clients servers) who ⌝ }
+{
+    let client = uses(kind, CLIENT);
+    if client {
+        return field(true, 1, 16, who as u32);
+    }
+    let server = uses(kind, SERVER);
+    field(server, 1, 32, who as u32)
+}
+
+fn both(a: bool, b: bool) -> bool
+    ensures { λ r. ⌜ r ≡ (a && b) ⌝ }
+{
+    if a { b } else { false }
+}
+
+// "3, unknown kind, a field out of range or an unused field set" is what fails this.
+pub fn fields_fit(st: Step) -> bool
+    ensures { λ r. ⌜ r ≡ fieldsFit st ⌝ }
+{
+    let kind = st.kind;
+    let view = st.view;
+    let message = st.message;
+    let source = st.source;
+    let t = view.0;
+    let n = message.0;
+    let k = source.0;
+    if kind < 1 {
+        return false;
+    }
+    if 7 < kind {
+        return false;
+    }
+    let who = who_fits(kind, st.who);
+    let view_fits = field(uses(kind, VIEW), 1, 32, t as u32);
+    let f_fits = field(uses(kind, F), 0, 255, st.f as u32);
+    let message_fits = field(uses(kind, MESSAGE), 1, 1023, n as u32);
+    let source_fits = field(uses(kind, SOURCE), 0, 1023, k as u32);
+    let value_fits = field(uses(kind, VALUE), 0, 4294967295, st.value);
+    let numbers = both(message_fits, both(source_fits, value_fits));
+    both(who, both(view_fits, both(f_fits, numbers)))
+}

@@ -1,0 +1,11 @@
+// The steps of a world on its lent image, over the promises of the machines' rules.
+pub mod clients;
+pub mod fields;
+pub mod mail;
+pub mod servers;
+
+// A step's answer: a refusal, or the client whose operation it completed, or 0.
+pub enum Stepped {
+    StepRefused(u8),
+    StepDone(u8),
+}

@@ -1,0 +1,167 @@
+// A message reaches a server, a server turns faulty, a faulty server answers.
+ghost use mathlib.Core.Path.{_≡_};
+ghost use Prim.Native.Nat.{_≤_};
+ghost use Rattle.protocol.specs.Sizes.{servers, views, messages};
+ghost use Rattle.protocol.specs.Worlds.{member as memberOf, message};
+ghost use Rattle.protocol.specs.Steps.{deliver as deliverOn, answers as answersOn, fault as faultOn, source? as isSource, lie as lieOn};
+ghost use Rattle.codec.specs.Images.{decode};
+ghost use mathlib.Core.Option.{some};
+ghost use lib.Dec.{eqb};
+ghost use Rattle.protocol.specs.Tools.{if};
+ghost use Rattle.protocol.specs.Entries.{empty};
+ghost use Rattle.world.specs.Images.{Legible, Does};
+use codec::image::load_message;
+use codec::image::load_server;
+use codec::image::load_used;
+use codec::image::load_view;
+use codec::image::store_server;
+use machines::entries::entry_of;
+use machines::servers::may_answer;
+use machines::servers::serve;
+use machines::sizes::holds;
+use protocol::Entry;
+use protocol::MessageNumber;
+use protocol::Served;
+use protocol::Server;
+use protocol::ServerNumber;
+use protocol::Shown;
+use protocol::ViewNumber;
+use super::mail::answer;
+use super::mail::present;
+use super::mail::send;
+use super::Stepped;
+
+// Server s is in N(t).
+fn is_member(image: &[u8], t: ViewNumber, s: ServerNumber) -> bool
+    requires { ⌜ Legible (now image) × (t .0 ≤ views) ⌝ }
+    ensures { λ r. ⌜ r ≡ memberOf (decode (now (image .entry))) (t .0) (s .0) ⌝ }
+{
+    let k = t.0;
+    let who = s.0;
+    if k == 0 {
+        return false;
+    }
+    let v = load_view(image, t);
+    holds(v.members, who)
+}
+
+// The server's record is kept and its answer sent: 10 where no number is left.
+fn reply(image: &mut [u8], s: ServerNumber, n: MessageNumber, b: Server, x: Shown) -> Stepped
+    requires { ⌜ Legible (now image) × (1 ≤ s .0) × (s .0 ≤ servers) ⌝ }
+    ensures { λ r. ⌜ Does r (now (image .entry)) (now (image .exit)) (answersOn (some x) (decode (now (image .entry))) (s .0) (n .0) b) ⌝ }
+{
+    let used = load_used(image);
+    if 1023 <= used {
+        return Stepped::StepRefused(10);
+    }
+    let m = answer(s, n, x);
+    store_server(image, s, b);
+    send(image, MessageNumber(used + 1), m);
+    Stepped::StepDone(0)
+}
+
+// "Deliver: 5, no such message or an answer; 6 ...; 7, the server's rule does not apply; 10"
+pub fn deliver(image: &mut [u8], s: ServerNumber, n: MessageNumber) -> Stepped
+    requires { ⌜ Legible (now image) × (1 ≤ s .0) × (s .0 ≤ servers) ⌝ }
+    ensures { λ r. ⌜ Does r (now (image .entry)) (now (image .exit)) (deliverOn (decode (now (image .entry))) (s .0) (n .0)) ⌝ }
+{
+    let sent = present(image, n);
+    if !sent {
+        return Stepped::StepRefused(5);
+    }
+    let m = load_message(image, n);
+    let a = load_server(image, s);
+    let t = m.view;
+    let member = is_member(image, t, s);
+    let served = serve(a, m, member);
+    match served {
+        Served::ServeRefused(x) => Stepped::StepRefused(x),
+        Served::Kept(b) => {
+            store_server(image, s, b);
+            Stepped::StepDone(0)
+        }
+        Served::Answered(b, x) => reply(image, s, n, b, x),
+    }
+}
+
+// "Fault: 6, faulty already."
+pub fn fault(image: &mut [u8], s: ServerNumber) -> Stepped
+    requires { ⌜ Legible (now image) × (1 ≤ s .0) × (s .0 ≤ servers) ⌝ }
+    ensures { λ r. ⌜ Does r (now (image .entry)) (now (image .exit)) (faultOn (decode (now (image .entry))) (s .0)) ⌝ }
+{
+    let a = load_server(image, s);
+    let view = a.view;
+    let entry = a.entry;
+    if a.faulty {
+        return Stepped::StepRefused(6);
+    }
+    let b = Server {
+        view: view,
+        faulty: true,
+        keys: a.keys,
+        entry: entry,
+    };
+    store_server(image, s, b);
+    Stepped::StepDone(0)
+}
+
+// The entry shown is the empty one, or that of a WRITE sent.
+fn is_source(image: &[u8], n: MessageNumber) -> bool
+    requires { ⌜ Legible (now image) ⌝ }
+    ensures { λ r. ⌜ r ≡ isSource (decode (now (image .entry))) (n .0) ⌝ }
+{
+    let k = n.0;
+    if k == 0 {
+        return true;
+    }
+    let sent = present(image, n);
+    if !sent {
+        return false;
+    }
+    let m = load_message(image, n);
+    let kind = m.kind;
+    kind == 2
+}
+
+// The empty entry, or that of the message n.
+fn shown_entry(image: &[u8], n: MessageNumber) -> Entry
+    requires { ⌜ Legible (now image) × (n .0 ≤ messages) ⌝ }
+    ensures { λ r. ⌜ r ≡ if (eqb (n .0) 0) empty (message (decode (now (image .entry))) (n .0) .entry) ⌝ }
+{
+    let k = n.0;
+    if k == 0 {
+        return entry_of(0, 0, 0);
+    }
+    let m = load_message(image, n);
+    m.entry
+}
+
+// "False answer: 5, message not of kind 1 to 3, or source neither 0 nor a WRITE; 6, server not faulty; 9, it lacks that key; 10."
+pub fn false_answer(image: &mut [u8], s: ServerNumber, t: ViewNumber, n: MessageNumber, source: MessageNumber) -> Stepped
+    requires { ⌜ Legible (now image) × (1 ≤ s .0) × (s .0 ≤ servers) × (source .0 ≤ messages) ⌝ }
+    ensures { λ r. ⌜ Does r (now (image .entry)) (now (image .exit)) (lieOn (decode (now (image .entry))) (s .0) (t .0) (n .0) (source .0)) ⌝ }
+{
+    let sent = present(image, n);
+    if !sent {
+        return Stepped::StepRefused(5);
+    }
+    let asked = load_message(image, n);
+    let a = load_server(image, s);
+    let fits = is_source(image, source);
+    let refusal = may_answer(a, t, asked, fits);
+    if refusal != 0 {
+        return Stepped::StepRefused(refusal);
+    }
+    let used = load_used(image);
+    if 1023 <= used {
+        return Stepped::StepRefused(10);
+    }
+    let entry = shown_entry(image, source);
+    let x = Shown {
+        view: t,
+        entry: entry,
+    };
+    let m = answer(s, n, x);
+    send(image, MessageNumber(used + 1), m);
+    Stepped::StepDone(0)
+}
