@@ -5,19 +5,18 @@ use mathlib.Core.Logic.{⊎-elim}
 use mathlib.Core.List.{List, [], _∷_, _++_, append-assoc, append-nil}
 use Prim.Native.Nat.{ℕ, zero, suc, _+_, _*_, _≤_, _<_, _^_}
 use native.Mathlib.Omega.{arith}
-use lib.ListN.{length, getD, set, length-append, length-set}
+use lib.ListN.{length, getD, length-append, length-set}
 use Rattle.protocol.specs.declared.View.{View}
 use Rattle.protocol.specs.declared.Server.{Server}
 use Rattle.protocol.specs.declared.Client.{Client}
 use Rattle.protocol.specs.declared.Administrator.{Administrator}
 use Rattle.protocol.specs.declared.Message.{Message}
-use Rattle.protocol.specs.Tools.{nth, replace}
 use Rattle.protocol.specs.Sizes.{clients, servers, views, messages}
 use Rattle.protocol.specs.Worlds.{World, view, server, client, message, withView, withServer, withClient, withMessage, withAdministrator, send, listTo, noView, noServer, noClient, noMessage}
 use Rattle.codec.specs.Layout.{imageSize, headerWidth, viewsAt, serversAt, clientsAt, messagesAt, viewPlace, serverPlace, clientPlace, messagePlace, viewWidth, serverWidth, clientWidth, messageWidth}
 use Rattle.codec.specs.Lists.{part, put, flat, length-flat, part-group, put-group, part-number, put-number, length-replace, length-listTo, nth-listTo, listTo-nth, getD-cons, getD-set, nth-replace}
-use Rattle.codec.specs.Bytes.{half-le16, le16}
-use Rattle.codec.specs.Records.{headerBytes, viewBytes, serverBytes, clientBytes, messageBytes, administratorBytes, viewOf, serverOf, clientOf, messageOf, administratorOf, length-headerBytes, length-viewBytes, length-serverBytes, length-clientBytes, length-messageBytes, viewOf-bytes, serverOf-bytes, clientOf-bytes, messageOf-bytes, administratorOf-bytes, ViewFits, ServerFits, ClientFits, MessageFits, AdministratorFits}
+use Rattle.codec.specs.Bytes.{half-le16}
+use Rattle.codec.specs.Records.{headerBytes, viewBytes, serverBytes, clientBytes, messageBytes, administratorBytes, viewOf, serverOf, clientOf, messageOf, length-headerBytes, length-viewBytes, length-serverBytes, length-clientBytes, length-messageBytes, viewOf-bytes, serverOf-bytes, clientOf-bytes, messageOf-bytes, administratorOf-bytes, ViewFits, ServerFits, ClientFits, MessageFits, AdministratorFits}
 use Rattle.codec.specs.Places.{usedAt, putUsed, administratorAt, putAdministrator, viewAt, putView, serverAt, putServer, clientAt, putClient, messageAt, putMessage}
 use Rattle.codec.specs.Images.{encode, decode}
 
@@ -30,10 +29,10 @@ listed g (x ∷ xs) e h =
 
 -- the lists have their full lengths
 pub record Full (w : World) : Type 0 where
-  pub views : length (w .viewList) ≡ 32
-  pub servers : length (w .serverList) ≡ 32
-  pub clients : length (w .clientList) ≡ 16
-  pub messages : length (w .messageList) ≡ 1024
+  pub view : length (w .viewList) ≡ views
+  pub server : length (w .serverList) ≡ servers
+  pub client : length (w .clientList) ≡ clients
+  pub message : length (w .messageList) ≡ suc messages
 
 -- and every record of them can be read back
 pub record Storable (w : World) : Type 0 where
@@ -83,17 +82,17 @@ unfolding encode beforeMessages
 by-messages w = simp (append-assoc, append-nil)
 
 module _ (w : World) (h : Full w) where
-  length-views : length (flat viewBytes (w .viewList)) ≡ 256
-  length-views = omega (arith, length-flat viewBytes viewWidth length-viewBytes (w .viewList), h .views)
+  length-views : length (flat viewBytes (w .viewList)) ≡ views * viewWidth
+  length-views = omega (arith, length-flat viewBytes viewWidth length-viewBytes (w .viewList), h .view)
 
-  length-servers : length (flat serverBytes (w .serverList)) ≡ 640
-  length-servers = omega (arith, length-flat serverBytes serverWidth length-serverBytes (w .serverList), h .servers)
+  length-servers : length (flat serverBytes (w .serverList)) ≡ servers * serverWidth
+  length-servers = omega (arith, length-flat serverBytes serverWidth length-serverBytes (w .serverList), h .server)
 
-  length-clients : length (flat clientBytes (w .clientList)) ≡ 256
-  length-clients = omega (arith, length-flat clientBytes clientWidth length-clientBytes (w .clientList), h .clients)
+  length-clients : length (flat clientBytes (w .clientList)) ≡ clients * clientWidth
+  length-clients = omega (arith, length-flat clientBytes clientWidth length-clientBytes (w .clientList), h .client)
 
-  length-messages : length (flat messageBytes (w .messageList)) ≡ 20480
-  length-messages = omega (arith, length-flat messageBytes messageWidth length-messageBytes (w .messageList), h .messages)
+  length-messages : length (flat messageBytes (w .messageList)) ≡ suc messages * messageWidth
+  length-messages = omega (arith, length-flat messageBytes messageWidth length-messageBytes (w .messageList), h .message)
 
   at-servers : length (beforeServers w) ≡ serversAt
   unfolding beforeServers
@@ -117,42 +116,42 @@ module _ (w : World) (h : Full w) where
   unfolding encode view behindViews
   part-view t l m =
       part-number viewBytes viewWidth length-viewBytes (headerBytes (w .used) (w .administrator)) (w .viewList) (behindViews w) viewsAt t noView
-      (length-headerBytes (w .used) (w .administrator)) l (omega (arith, h .views))
+      (length-headerBytes (w .used) (w .administrator)) l (omega (arith, h .view))
 
   pub part-server : (s : ℕ) → 1 ≤ s → s ≤ servers → part (encode w) (serverPlace s) serverWidth ≡ serverBytes (server w s)
   unfolding server
   part-server s l m =
       ap (λ (i : List ℕ). part i (serverPlace s) serverWidth) (by-servers w)
       ∙ part-number serverBytes serverWidth length-serverBytes (beforeServers w) (w .serverList) (behindServers w) serversAt s noServer at-servers l
-      (omega (arith, h .servers))
+      (omega (arith, h .server))
 
   pub part-client : (c : ℕ) → 1 ≤ c → c ≤ clients → part (encode w) (clientPlace c) clientWidth ≡ clientBytes (client w c)
   unfolding client
   part-client c l m =
       ap (λ (i : List ℕ). part i (clientPlace c) clientWidth) (by-clients w)
       ∙ part-number clientBytes clientWidth length-clientBytes (beforeClients w) (w .clientList) (behindClients w) clientsAt c noClient at-clients l
-      (omega (arith, h .clients))
+      (omega (arith, h .client))
 
   pub part-message : (n : ℕ) → n ≤ messages → part (encode w) (messagePlace n) messageWidth ≡ messageBytes (message w n)
   unfolding message
   part-message n m =
       ap (λ (i : List ℕ). part i (messagePlace n) messageWidth) (by-messages w)
       ∙ part-group messageBytes messageWidth length-messageBytes (beforeMessages w) (w .messageList) [] messagesAt n noMessage at-messages
-      (omega (arith, h .messages))
+      (omega (arith, h .message))
 
   -- a record put into the image is put into the world
   pub put-view : (t : ℕ) → 1 ≤ t → t ≤ views → (v : View) → putView (encode w) t v ≡ encode (withView w t v)
   unfolding putView encode withView behindViews
   put-view t l m v =
       put-number viewBytes viewWidth length-viewBytes (headerBytes (w .used) (w .administrator)) (w .viewList) (behindViews w) viewsAt t v
-      (length-headerBytes (w .used) (w .administrator)) l (omega (arith, h .views))
+      (length-headerBytes (w .used) (w .administrator)) l (omega (arith, h .view))
 
   pub put-server : (s : ℕ) → 1 ≤ s → s ≤ servers → (v : Server) → putServer (encode w) s v ≡ encode (withServer w s v)
   unfolding putServer withServer beforeServers behindServers
   put-server s l m v =
       ap (λ (i : List ℕ). put i (serverPlace s) (serverBytes v)) (by-servers w)
       ∙ put-number serverBytes serverWidth length-serverBytes (beforeServers w) (w .serverList) (behindServers w) serversAt s v at-servers l
-      (omega (arith, h .servers))
+      (omega (arith, h .server))
       ∙ sym (by-servers (withServer w s v))
 
   pub put-client : (c : ℕ) → 1 ≤ c → c ≤ clients → (v : Client) → putClient (encode w) c v ≡ encode (withClient w c v)
@@ -160,7 +159,7 @@ module _ (w : World) (h : Full w) where
   put-client c l m v =
       ap (λ (i : List ℕ). put i (clientPlace c) (clientBytes v)) (by-clients w)
       ∙ put-number clientBytes clientWidth length-clientBytes (beforeClients w) (w .clientList) (behindClients w) clientsAt c v at-clients l
-      (omega (arith, h .clients))
+      (omega (arith, h .client))
       ∙ sym (by-clients (withClient w c v))
 
   pub put-message : (n : ℕ) → n ≤ messages → (v : Message) → putMessage (encode w) n v ≡ encode (withMessage w n v)
@@ -168,7 +167,7 @@ module _ (w : World) (h : Full w) where
   put-message n m v =
       ap (λ (i : List ℕ). put i (messagePlace n) (messageBytes v)) (by-messages w)
       ∙ put-group messageBytes messageWidth length-messageBytes (beforeMessages w) (w .messageList) [] messagesAt n v at-messages
-      (omega (arith, h .messages))
+      (omega (arith, h .message))
       ∙ sym (by-messages (withMessage w n v))
 
 pub put-used : (w : World) (n : ℕ) → putUsed (encode w) n ≡ encode (withUsed w n)
@@ -185,7 +184,7 @@ pub put-send : (w : World) → Full w → w .used < messages → (m : Message)
 unfolding send withUsed withMessage
 put-send w h l m =
     ap (λ (i : List ℕ). putMessage i (w .used + 1) m) (put-used w (w .used + 1))
-    ∙ put-message (withUsed w (w .used + 1)) (record { views = h .views; servers = h .servers; clients = h .clients; messages = h .messages })
+    ∙ put-message (withUsed w (w .used + 1)) (record { view = h .view; server = h .server; client = h .client; message = h .message })
     (w .used + 1) (omega arith) m
 
 pub part-header : (w : World) → part (encode w) 0 headerWidth ≡ headerBytes (w .used) (w .administrator)
@@ -220,7 +219,7 @@ module _ (w : World) (h : Storable w) where
 
   messages-encode : messageAt (encode w) 0 ∷ listTo (messageAt (encode w)) messages ≡ w .messageList
   unfolding message
-  messages-encode = listed (messageAt (encode w)) (w .messageList) (h .full .messages) message-encode
+  messages-encode = listed (messageAt (encode w)) (w .messageList) (h .full .message) message-encode
 
   -- a world is what its image spells
   pub decode-encode : decode (encode w) ≡ w
@@ -230,9 +229,9 @@ module _ (w : World) (h : Storable w) where
       record {
         used = used-encode i;
         administrator = administrator-encode i;
-        viewList = listTo-nth (viewAt (encode w)) (w .viewList) noView views (h .full .views) view-encode i;
-        serverList = listTo-nth (serverAt (encode w)) (w .serverList) noServer servers (h .full .servers) server-encode i;
-        clientList = listTo-nth (clientAt (encode w)) (w .clientList) noClient clients (h .full .clients) client-encode i;
+        viewList = listTo-nth (viewAt (encode w)) (w .viewList) noView views (h .full .view) view-encode i;
+        serverList = listTo-nth (serverAt (encode w)) (w .serverList) noServer servers (h .full .server) server-encode i;
+        clientList = listTo-nth (clientAt (encode w)) (w .clientList) noClient clients (h .full .client) client-encode i;
         messageList = messages-encode i;
       }
 
@@ -251,10 +250,10 @@ module _ (l : List ℕ) where
   unfolding decode
   decode-full =
       record {
-        views = length-listTo (viewAt l) views;
-        servers = length-listTo (serverAt l) servers;
-        clients = length-listTo (clientAt l) clients;
-        messages = ap suc (length-listTo (messageAt l) messages);
+        view = length-listTo (viewAt l) views;
+        server = length-listTo (serverAt l) servers;
+        client = length-listTo (clientAt l) clients;
+        message = ap suc (length-listTo (messageAt l) messages);
       }
 
   pub view-decode : (t : ℕ) → 1 ≤ t → t ≤ views → view (decode l) t ≡ viewAt l t
@@ -281,31 +280,31 @@ module _ (l : List ℕ) where
 module _ (w : World) (h : Full w) where
   pub full-view : (t : ℕ) (v : View) → Full (withView w t v)
   unfolding withView
-  full-view t v = record { views = length-replace (w .viewList) t v ∙ h .views; servers = h .servers; clients = h .clients; messages = h .messages }
+  full-view t v = record { view = length-replace (w .viewList) t v ∙ h .view; server = h .server; client = h .client; message = h .message }
 
   pub full-server : (s : ℕ) (v : Server) → Full (withServer w s v)
   unfolding withServer
-  full-server s v = record { views = h .views; servers = length-replace (w .serverList) s v ∙ h .servers; clients = h .clients; messages = h .messages }
+  full-server s v = record { view = h .view; server = length-replace (w .serverList) s v ∙ h .server; client = h .client; message = h .message }
 
   pub full-client : (c : ℕ) (v : Client) → Full (withClient w c v)
   unfolding withClient
-  full-client c v = record { views = h .views; servers = h .servers; clients = length-replace (w .clientList) c v ∙ h .clients; messages = h .messages }
+  full-client c v = record { view = h .view; server = h .server; client = length-replace (w .clientList) c v ∙ h .client; message = h .message }
 
   pub full-message : (n : ℕ) (v : Message) → Full (withMessage w n v)
   unfolding withMessage
-  full-message n v = record { views = h .views; servers = h .servers; clients = h .clients; messages = length-set (w .messageList) n v ∙ h .messages }
+  full-message n v = record { view = h .view; server = h .server; client = h .client; message = length-set (w .messageList) n v ∙ h .message }
 
   pub full-administrator : (a : Administrator) → Full (withAdministrator w a)
   unfolding withAdministrator
-  full-administrator a = record { views = h .views; servers = h .servers; clients = h .clients; messages = h .messages }
+  full-administrator a = record { view = h .view; server = h .server; client = h .client; message = h .message }
 
   pub full-used : (n : ℕ) → Full (withUsed w n)
   unfolding withUsed
-  full-used n = record { views = h .views; servers = h .servers; clients = h .clients; messages = h .messages }
+  full-used n = record { view = h .view; server = h .server; client = h .client; message = h .message }
 
   pub full-send : (m : Message) → Full (send w m)
   unfolding send
-  full-send m = record { views = h .views; servers = h .servers; clients = h .clients; messages = length-set (w .messageList) (w .used + 1) m ∙ h .messages }
+  full-send m = record { view = h .view; server = h .server; client = h .client; message = length-set (w .messageList) (w .used + 1) m ∙ h .message }
 
 module _ (w : World) (h : Storable w) where
   pub storable-view : (t : ℕ) (v : View) → ViewFits v → Storable (withView w t v)
@@ -316,7 +315,7 @@ module _ (w : World) (h : Storable w) where
         used = h .used;
         administrator = h .administrator;
         view = λ k a b.
-            ⊎-elim (λ e. rw e f) (λ e. rw e (h .view k a b)) (nth-replace (w .viewList) t k v noView a (omega (arith, h .full .views)));
+            ⊎-elim (λ e. rw e f) (λ e. rw e (h .view k a b)) (nth-replace (w .viewList) t k v noView a (omega (arith, h .full .view)));
         server = h .server;
         client = h .client;
         message = h .message;
@@ -331,7 +330,7 @@ module _ (w : World) (h : Storable w) where
         administrator = h .administrator;
         view = h .view;
         server = λ k a b.
-            ⊎-elim (λ e. rw e f) (λ e. rw e (h .server k a b)) (nth-replace (w .serverList) s k v noServer a (omega (arith, h .full .servers)));
+            ⊎-elim (λ e. rw e f) (λ e. rw e (h .server k a b)) (nth-replace (w .serverList) s k v noServer a (omega (arith, h .full .server)));
         client = h .client;
         message = h .message;
       }
@@ -346,7 +345,7 @@ module _ (w : World) (h : Storable w) where
         view = h .view;
         server = h .server;
         client = λ k a b.
-            ⊎-elim (λ e. rw e f) (λ e. rw e (h .client k a b)) (nth-replace (w .clientList) c k v noClient a (omega (arith, h .full .clients)));
+            ⊎-elim (λ e. rw e f) (λ e. rw e (h .client k a b)) (nth-replace (w .clientList) c k v noClient a (omega (arith, h .full .client)));
         message = h .message;
       }
 
@@ -361,7 +360,7 @@ module _ (w : World) (h : Storable w) where
         server = h .server;
         client = h .client;
         message = λ k b.
-            ⊎-elim (λ e. rw e f) (λ e. rw e (h .message k b)) (getD-set (w .messageList) n k v noMessage (omega (arith, h .full .messages)));
+            ⊎-elim (λ e. rw e f) (λ e. rw e (h .message k b)) (getD-set (w .messageList) n k v noMessage (omega (arith, h .full .message)));
       }
 
   pub storable-administrator : (a : Administrator) → AdministratorFits a → Storable (withAdministrator w a)
@@ -401,5 +400,5 @@ module _ (w : World) (h : Storable w) where
         server = h .server;
         client = h .client;
         message = λ k b.
-            ⊎-elim (λ e. rw e f) (λ e. rw e (h .message k b)) (getD-set (w .messageList) (w .used + 1) k m noMessage (omega (arith, h .full .messages)));
+            ⊎-elim (λ e. rw e f) (λ e. rw e (h .message k b)) (getD-set (w .messageList) (w .used + 1) k m noMessage (omega (arith, h .full .message)));
       }

@@ -1,12 +1,11 @@
 -- A part of a list, a list with a part replaced, and records of one width one after another. Assumes nothing.
 use mathlib.Core.Path.{_≡_, refl, sym, ap, _∙_}
 use mathlib.Core.Logic.{_⊎_, inl, inr}
-use mathlib.Core.List.{List, [], _∷_, _++_, append-assoc, append-nil}
+use mathlib.Core.List.{List, [], _∷_, _++_, append-assoc}
 use Prim.Native.Nat.{ℕ, zero, suc, _+_, _*_, _-_, _≤_, _<_}
 use native.Mathlib.Nat.{not-suc-le-zero, le-of-suc-le-suc, add-sub-cancel-left, zero-mul, suc-mul, mul-comm, add-zero, add-assoc}
 use native.Mathlib.Omega.{arith}
 use lib.ListN.{length, take, drop, getD, set, replicate, length-set, length-append, length-take, length-drop, replicate-append-replicate}
-use borrow.Rule.Slice.PartMut.{putMid}
 use Rattle.protocol.specs.Tools.{nth, replace}
 use Rattle.protocol.specs.Worlds.{listTo}
 use lib.Seq.{take-at, drop-at, take-append-add, drop-append-add, take-append-le, drop-append-le, drop-drop, take-add, take-length, getD-take, getD-drop, paste}

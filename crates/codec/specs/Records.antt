@@ -1,8 +1,8 @@
 -- The records as bytes. Assumes nothing.
-use mathlib.Core.Path.{_≡_, refl, ap, sym, _∙_}
+use mathlib.Core.Path.{_≡_, refl, ap, sym}
 use mathlib.Core.Bool.{Bool, true, false, not}
 use mathlib.Core.List.{List, [], _∷_, _++_}
-use Prim.Native.Nat.{ℕ, zero, suc, _+_, _*_, _/_, _%_, _<_, _^_}
+use Prim.Native.Nat.{ℕ, _<_, _^_}
 use lib.ListN.{getD, length, replicate}
 use lib.Dec.{eqb}
 use Rattle.protocol.specs.declared.Entry.{Entry}
@@ -20,7 +20,7 @@ use Rattle.protocol.specs.Tools.{if, bit}
 use Rattle.protocol.specs.Entries.{entry, countOf, writerOf}
 use Rattle.protocol.specs.Clients.{number, requestOf, endOf, isEnding}
 use Rattle.protocol.specs.Runs.{u16At, u32At, stepOf}
-use Rattle.codec.specs.Layout.{version, entryWidth}
+use Rattle.codec.specs.Layout.{version, entryWidth, headerWidth, viewWidth, serverWidth, clientWidth, messageWidth, administratorWidth}
 use Rattle.codec.specs.Lists.{part}
 use Rattle.codec.specs.Bytes.{le16, le32, half-le16, word-le32}
 
@@ -110,31 +110,31 @@ bytesOfStep st =
 
 -- ---- the widths
 
-pub length-entryBytes : (e : Entry) → length (entryBytes e) ≡ 12
+pub length-entryBytes : (e : Entry) → length (entryBytes e) ≡ entryWidth
 unfolding entryBytes
 length-entryBytes e = refl
 
-pub length-viewBytes : (v : View) → length (viewBytes v) ≡ 8
+pub length-viewBytes : (v : View) → length (viewBytes v) ≡ viewWidth
 unfolding viewBytes
 length-viewBytes v = refl
 
-pub length-serverBytes : (s : Server) → length (serverBytes s) ≡ 20
+pub length-serverBytes : (s : Server) → length (serverBytes s) ≡ serverWidth
 unfolding serverBytes serverHead entryBytes
 length-serverBytes s = refl
 
-pub length-clientBytes : (c : Client) → length (clientBytes c) ≡ 16
+pub length-clientBytes : (c : Client) → length (clientBytes c) ≡ clientWidth
 unfolding clientBytes clientHead entryBytes
 length-clientBytes c = refl
 
-pub length-messageBytes : (m : Message) → length (messageBytes m) ≡ 20
+pub length-messageBytes : (m : Message) → length (messageBytes m) ≡ messageWidth
 unfolding messageBytes messageHead entryBytes
 length-messageBytes m = refl
 
-pub length-administratorBytes : (a : Administrator) → length (administratorBytes a) ≡ 4
+pub length-administratorBytes : (a : Administrator) → length (administratorBytes a) ≡ administratorWidth
 unfolding administratorBytes
 length-administratorBytes a = refl
 
-pub length-headerBytes : (n : ℕ) (a : Administrator) → length (headerBytes n a) ≡ 16
+pub length-headerBytes : (n : ℕ) (a : Administrator) → length (headerBytes n a) ≡ headerWidth
 unfolding headerBytes administratorBytes
 length-headerBytes n a = refl
 

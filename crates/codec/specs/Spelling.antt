@@ -1,37 +1,24 @@
 -- Bytes that spell a record and are its bytes again: the spare bytes are zero, a flag is 0 or 1. Assumes nothing.
 use mathlib.Core.Path.{_≡_, refl, sym, ap, _∙_}
 use mathlib.Core.Bool.{Bool, true, false, not, _&&_, _||_}
-use mathlib.Core.List.{List, [], _∷_, _++_}
-use Prim.Native.Nat.{ℕ, zero, suc, _+_, _*_, _/_, _%_, _-_, _≤_, _<_}
-use native.Mathlib.Nat.{zero-mul, suc-mul, mul-suc, not-suc-le-zero}
+use mathlib.Core.List.{List, [], _∷_}
+use Prim.Native.Nat.{ℕ, zero, suc, _+_, _*_, _/_, _%_, _≤_, _<_}
 use native.Mathlib.Omega.{arith}
-use native.Mathlib.Decide.{decLt}
-use lib.ListN.{length, getD, take, drop, length-take, List·getD-eq-default}
-use lib.Seq.{drop-length, drop-cons, take-all}
+use lib.ListN.{length, getD, drop}
+use lib.Seq.{drop-length, drop-cons}
 use lib.Dec.{leb, eqb, lit<}
 use borrow.Author.Tests.{eqb-true, leb-true, eq-eqb, le-leb}
-use Rattle.protocol.specs.declared.Entry.{Entry}
-use Rattle.protocol.specs.declared.View.{View}
-use Rattle.protocol.specs.declared.Server.{Server}
 use Rattle.protocol.specs.declared.Phase.{Phase}
 use Rattle.protocol.specs.declared.Phase.the-variants.{Idle, Reading, Writing}
-use Rattle.protocol.specs.declared.Client.{Client}
-use Rattle.protocol.specs.declared.Ending.{Ending}
 use Rattle.protocol.specs.declared.Ending.the-variants.{Settled, EndSent}
-use Rattle.protocol.specs.declared.Administrator.{Administrator}
-use Rattle.protocol.specs.declared.Message.{Message}
 use Rattle.protocol.specs.Tools.{bit, if}
 use Rattle.protocol.specs.Entries.{entry}
 use Rattle.protocol.specs.Clients.{number, requestOf, endOf, isEnding}
 use Rattle.protocol.specs.Runs.{u16At, u32At, stepWidth, stepOf}
-use Rattle.protocol.specs.Sizes.{clients, servers, views, messages}
-use Rattle.protocol.specs.Worlds.{listTo}
-use Rattle.codec.specs.Layout.{version, imageSize, headerWidth, viewWidth, serverWidth, clientWidth, messageWidth, viewsAt, serversAt, clientsAt, messagesAt, viewPlace, serverPlace, clientPlace, messagePlace}
-use Rattle.codec.specs.Lists.{part, flat, length-part, getD-part, part-add}
+use Rattle.codec.specs.Layout.{version, entryWidth, headerWidth, viewWidth, serverWidth, clientWidth, messageWidth}
+use Rattle.codec.specs.Lists.{part, getD-part}
 use Rattle.codec.specs.Bytes.{Bytes, half-0, half-1, word-0, word-1, word-2, word-3}
-use Rattle.codec.specs.Records.{flagOf, entryOf, entryBytes, viewOf, viewBytes, serverOf, serverHead, serverBytes, phaseOf, phaseTag, clientOf, clientHead, clientBytes, messageOf, messageHead, messageBytes, endingOf, administratorOf, administratorBytes, headerBytes, bytesOfStep}
-use Rattle.codec.specs.Places.{usedAt, administratorAt, viewAt, serverAt, clientAt, messageAt}
-use Rattle.codec.specs.Images.{encode, decode}
+use Rattle.codec.specs.Records.{flagOf, entryOf, entryBytes, viewOf, viewBytes, serverOf, serverHead, serverBytes, phaseOf, phaseTag, clientOf, clientHead, clientBytes, messageOf, messageHead, messageBytes, endingOf, administratorBytes, headerBytes, bytesOfStep}
 
 -- ---- the tests
 
@@ -100,7 +87,7 @@ to-three : (b : List ℕ) (i j k : ℕ) → getD b i 0 ≡ 0 → getD b j 0 ≡ 
 to-three b i j k x y z = join (eq-eqb (getD b i 0) 0 x) (join (eq-eqb (getD b j 0) 0 y) (eq-eqb (getD b k 0) 0 z))
 
 -- the entry of a part is spelled by the bytes of the whole
-entry-part : (b : List ℕ) (at : ℕ) → entryOf (part b at 12)
+entry-part : (b : List ℕ) (at : ℕ) → entryOf (part b at entryWidth)
     ≡ entry
     (getD b (at + 0) 0 + 256 * getD b (at + 1) 0 + 65536 * (getD b (at + 2) 0 + 256 * getD b (at + 3) 0))
     (getD b (at + 4) 0)
@@ -108,15 +95,15 @@ entry-part : (b : List ℕ) (at : ℕ) → entryOf (part b at 12)
 unfolding entryOf
 entry-part b at =
     rw (
-      getD-part b at 12 0 (lit< tt),
-      getD-part b at 12 1 (lit< tt),
-      getD-part b at 12 2 (lit< tt),
-      getD-part b at 12 3 (lit< tt),
-      getD-part b at 12 4 (lit< tt),
-      getD-part b at 12 8 (lit< tt),
-      getD-part b at 12 9 (lit< tt),
-      getD-part b at 12 10 (lit< tt),
-      getD-part b at 12 11 (lit< tt),
+      getD-part b at entryWidth 0 (lit< tt),
+      getD-part b at entryWidth 1 (lit< tt),
+      getD-part b at entryWidth 2 (lit< tt),
+      getD-part b at entryWidth 3 (lit< tt),
+      getD-part b at entryWidth 4 (lit< tt),
+      getD-part b at entryWidth 8 (lit< tt),
+      getD-part b at entryWidth 9 (lit< tt),
+      getD-part b at entryWidth 10 (lit< tt),
+      getD-part b at entryWidth 11 (lit< tt),
     )
 
 bit-le : (t : Bool) → bit t ≤ 1
@@ -141,8 +128,8 @@ pub view-plain : (b : List ℕ) → length b ≡ viewWidth → Bytes b → viewP
 unfolding viewPlain viewBytes viewOf
 view-plain b e y p =
     let z = three b 5 6 7 p in
-    let q : viewBytes (viewOf b) ≡ table b 0 8 = simp (word-0, word-1, word-2, word-3, y, z .0, z .1, z .2) in
-    q ∙ spelled b 8 e
+    let q : viewBytes (viewOf b) ≡ table b 0 viewWidth = simp (word-0, word-1, word-2, word-3, y, z .0, z .1, z .2) in
+    q ∙ spelled b viewWidth e
 
 pub plain-view : (b : List ℕ) → viewBytes (viewOf b) ≡ b → viewPlain b ≡ true
 unfolding viewPlain viewBytes viewOf
@@ -157,9 +144,9 @@ server-plain b e y p =
     let p2 = zero-and b 2 (clear b 3 && entryPlain b 8) (f .1) in
     let p3 = zero-and b 3 (entryPlain b 8) (p2 .1) in
     let z = three b 13 14 15 (p3 .1) in
-    let q : serverBytes (serverOf b) ≡ table b 0 20
+    let q : serverBytes (serverOf b) ≡ table b 0 serverWidth
     = rw (entry-part b 8) (simp (word-0, word-1, word-2, word-3, y, flag-of (getD b 1 0) (f .0), p2 .0, p3 .0, z .0, z .1, z .2)) in
-    q ∙ spelled b 20 e
+    q ∙ spelled b serverWidth e
 
 pub plain-server : (b : List ℕ) → serverBytes (serverOf b) ≡ b → serverPlain b ≡ true
 unfolding serverPlain serverBytes serverHead entryBytes serverOf
@@ -201,10 +188,10 @@ client-plain b e y p =
     let t = both (leb (getD b 0 0) 2) ((not (clear b 0) || eqb (u16At b 2) 0) && entryPlain b 4) p in
     let r = both (not (clear b 0) || eqb (u16At b 2) 0) (entryPlain b 4) (t .1) in
     let z = three b 9 10 11 (r .1) in
-    let q : clientBytes (clientOf b) ≡ table b 0 16
+    let q : clientBytes (clientOf b) ≡ table b 0 clientWidth
     = rw (entry-part b 4, tag-of (getD b 0 0) (u16At b 2) (t .0), request-of (eqb (getD b 0 0) 0) (eqb (getD b 0 0) 1) (u16At b 2) (r .0))
     (simp (half-0, half-1, word-0, word-1, word-2, word-3, y, z .0, z .1, z .2)) in
-    q ∙ spelled b 16 e
+    q ∙ spelled b clientWidth e
 
 pub plain-client : (b : List ℕ) → clientBytes (clientOf b) ≡ b → clientPlain b ≡ true
 unfolding clientPlain clientBytes clientHead entryBytes clientOf phaseOf
@@ -219,9 +206,9 @@ unfolding messagePlain messageBytes messageHead entryBytes messageOf
 message-plain b e y p =
     let f = both (leb (getD b 3 0) 1) (entryPlain b 8) p in
     let z = three b 13 14 15 (f .1) in
-    let q : messageBytes (messageOf b) ≡ table b 0 20
+    let q : messageBytes (messageOf b) ≡ table b 0 messageWidth
     = rw (entry-part b 8) (simp (half-0, half-1, word-0, word-1, word-2, word-3, y, flag-of (getD b 3 0) (f .0), z .0, z .1, z .2)) in
-    q ∙ spelled b 20 e
+    q ∙ spelled b messageWidth e
 
 pub plain-message : (b : List ℕ) → messageBytes (messageOf b) ≡ b → messagePlain b ≡ true
 unfolding messagePlain messageBytes messageHead entryBytes messageOf
@@ -263,10 +250,10 @@ header-plain b e y p =
     let x = four b 8 (eqb-true (u32At b 8) 0 (z .0)) in
     let u = four b 12 (eqb-true (u32At b 12) 0 (z .1)) in
     let o = one (getD b 0 0) (getD b 1 0) (eqb-true (u16At b 0) version (v .0)) in
-    let q : headerOf b ≡ table b 0 16
+    let q : headerOf b ≡ table b 0 headerWidth
     = rw (is-ending (eqb (getD b 5 0) 0) (u16At b 6), ending-of (eqb (getD b 5 0) 0) (u16At b 6) (r .0), flag-of (getD b 5 0) (f .0))
     (simp (half-0, half-1, y, o .0, o .1, x .0, x .1, x .2, x .3, u .0, u .1, u .2, u .3)) in
-    q ∙ spelled b 16 e
+    q ∙ spelled b headerWidth e
 
 pub plain-header : (b : List ℕ) → headerOf b ≡ b → headerPlain b ≡ true
 unfolding headerPlain headerBytes administratorBytes endingOf
@@ -282,5 +269,5 @@ plain-header b e =
 pub step-bytes : (b : List ℕ) → length b ≡ stepWidth → Bytes b → bytesOfStep (stepOf b) ≡ b
 unfolding bytesOfStep stepOf
 step-bytes b e y =
-    let q : bytesOfStep (stepOf b) ≡ table b 0 12 = simp (half-0, half-1, word-0, word-1, word-2, word-3, y) in
-    q ∙ spelled b 12 e
+    let q : bytesOfStep (stepOf b) ≡ table b 0 stepWidth = simp (half-0, half-1, word-0, word-1, word-2, word-3, y) in
+    q ∙ spelled b stepWidth e

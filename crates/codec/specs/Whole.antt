@@ -1,12 +1,12 @@
 -- An image whose records are plain is the image of the world that it spells. Assumes nothing.
 use mathlib.Core.Path.{_≡_, refl, sym, ap, _∙_}
-use mathlib.Core.Bool.{Bool, true, false, _&&_}
-use mathlib.Core.List.{List, [], _∷_, _++_}
+use mathlib.Core.Bool.{Bool, true}
+use mathlib.Core.List.{List, [], _++_}
 use Prim.Native.Nat.{ℕ, zero, suc, _+_, _*_, _-_, _≤_, _<_}
 use native.Mathlib.Nat.{zero-mul, suc-mul, mul-suc, mul-zero, not-suc-le-zero, le-of-suc-le-suc}
 use native.Mathlib.Omega.{arith}
 use native.Mathlib.Decide.{decLt}
-use lib.ListN.{length, getD, take, drop, length-take, List·getD-eq-default}
+use lib.ListN.{length, length-take, List·getD-eq-default}
 use lib.Seq.{take-all}
 use lib.Dec.{lit<}
 use Rattle.protocol.specs.Tools.{allTo}
@@ -15,7 +15,7 @@ use Rattle.protocol.specs.Worlds.{listTo}
 use Rattle.codec.specs.Layout.{imageSize, headerWidth, viewWidth, serverWidth, clientWidth, messageWidth, viewsAt, serversAt, clientsAt, messagesAt, viewPlace, serverPlace, clientPlace, messagePlace}
 use Rattle.codec.specs.Lists.{part, flat, length-part, getD-part, part-add}
 use Rattle.codec.specs.Bytes.{Bytes}
-use Rattle.codec.specs.Records.{viewOf, viewBytes, serverOf, serverBytes, clientOf, clientBytes, messageOf, messageBytes, headerBytes, administratorOf}
+use Rattle.codec.specs.Records.{viewBytes, serverBytes, clientBytes, messageBytes, headerBytes, administratorOf}
 use Rattle.codec.specs.Places.{usedAt, administratorAt, viewAt, serverAt, clientAt, messageAt}
 use Rattle.codec.specs.Images.{encode, decode}
 use Rattle.codec.specs.Laws.{decode-full, part-header, part-view, part-server, part-client, part-message, view-decode, server-decode, client-decode, message-decode}
@@ -90,40 +90,47 @@ bytes-part : (l : List ℕ) (a n : ℕ) → Bytes l → Bytes (part l a n)
 bytes-part l a n y i =
     elim (decLt i n) [ yes h ↦ rw (getD-part l a n i h) (y (a + i)) | no h ↦ rw (List·getD-eq-default (part l a n) 0 (short l a n i h)) (omega arith) ]
 
-all : (l : List ℕ) → length l ≡ imageSize → part l 0 21648 ≡ l
+all : (l : List ℕ) → length l ≡ imageSize → part l 0 imageSize ≡ l
 unfolding part
-all l s = take-all 21648 l (omega arith)
+all l s = take-all imageSize l (omega arith)
 
+-- an image is its header and its groups of records, message 0 apart
 whole : (l : List ℕ) → length l ≡ imageSize
-    → part l 0 16 ++ (part l 16 256 ++ (part l 272 640 ++ (part l 912 256 ++ (part l 1168 20 ++ part l 1188 20460)))) ≡ l
+    → part l 0 headerWidth
+    ++ (part l viewsAt (views * viewWidth)
+    ++ (part l serversAt (servers * serverWidth)
+    ++ (part l clientsAt (clients * clientWidth) ++ (part l messagesAt messageWidth ++ part l (messagePlace 1) (messages * messageWidth)))))
+    ≡ l
 whole l s =
     sym
     (sym (all l s)
-    ∙ part-add l 0 16 21632
-    ∙ ap (λ (r : List ℕ). part l 0 16 ++ r)
-    (part-add l 16 256 21376
-    ∙ ap (λ (r : List ℕ). part l 16 256 ++ r)
-    (part-add l 272 640 20736
-    ∙ ap (λ (r : List ℕ). part l 272 640 ++ r)
-    (part-add l 912 256 20480 ∙ ap (λ (r : List ℕ). part l 912 256 ++ r) (part-add l 1168 20 20460)))))
+    ∙ part-add l 0 headerWidth (imageSize - viewsAt)
+    ∙ ap (λ (r : List ℕ). part l 0 headerWidth ++ r)
+    (part-add l viewsAt (views * viewWidth) (imageSize - serversAt)
+    ∙ ap (λ (r : List ℕ). part l viewsAt (views * viewWidth) ++ r)
+    (part-add l serversAt (servers * serverWidth) (imageSize - clientsAt)
+    ∙ ap (λ (r : List ℕ). part l serversAt (servers * serverWidth) ++ r)
+    (part-add l clientsAt (clients * clientWidth) (imageSize - messagesAt)
+    ∙ ap (λ (r : List ℕ). part l clientsAt (clients * clientWidth) ++ r)
+    (part-add l messagesAt messageWidth (messages * messageWidth))))))
 
-header-same : (l : List ℕ) → headerBytes (usedAt l) (administratorAt l) ≡ headerOf (part l 0 16)
+header-same : (l : List ℕ) → headerBytes (usedAt l) (administratorAt l) ≡ headerOf (part l 0 headerWidth)
 unfolding usedAt administratorAt administratorOf
 header-same l =
     rw (
-      getD-part l 0 16 2 (lit< tt),
-      getD-part l 0 16 3 (lit< tt),
-      getD-part l 0 16 4 (lit< tt),
-      getD-part l 0 16 5 (lit< tt),
-      getD-part l 0 16 6 (lit< tt),
-      getD-part l 0 16 7 (lit< tt),
+      getD-part l 0 headerWidth 2 (lit< tt),
+      getD-part l 0 headerWidth 3 (lit< tt),
+      getD-part l 0 headerWidth 4 (lit< tt),
+      getD-part l 0 headerWidth 5 (lit< tt),
+      getD-part l 0 headerWidth 6 (lit< tt),
+      getD-part l 0 headerWidth 7 (lit< tt),
       getD-part l 4 4 0 (lit< tt),
       getD-part l 4 4 1 (lit< tt),
       getD-part l 4 4 2 (lit< tt),
       getD-part l 4 4 3 (lit< tt),
     )
 
-head : (l : List ℕ) → headerBytes (decode l .used) (decode l .administrator) ≡ headerOf (part l 0 16)
+head : (l : List ℕ) → headerBytes (decode l .used) (decode l .administrator) ≡ headerOf (part l 0 headerWidth)
 unfolding decode
 head l = header-same l
 
@@ -132,16 +139,18 @@ pub encode-decode : (l : List ℕ) → length l ≡ imageSize → Bytes l → Pl
 unfolding encode decode flat viewAt serverAt clientAt messageAt
 encode-decode l s y p =
     let size : (a n : ℕ) → a + n ≤ imageSize → length (part l a n) ≡ n = λ a n h. length-part l a n (omega arith) in
-    let eh = header-same l ∙ header-plain (part l 0 16) (size 0 16 (omega arith)) (bytes-part l 0 16 y) (p .header) in
+    let eh = header-same l ∙ header-plain (part l 0 headerWidth) (size 0 headerWidth (omega arith)) (bytes-part l 0 headerWidth y) (p .header) in
     let ev = rejoin viewBytes (viewAt l) l viewWidth viewsAt views
-    (λ k a b. view-plain (part l (viewPlace k) 8) (size (viewPlace k) 8 (omega arith)) (bytes-part l (viewPlace k) 8 y) (p .view k a b)) in
+    (λ k a b. view-plain (part l (viewPlace k) viewWidth) (size (viewPlace k) viewWidth (omega arith)) (bytes-part l (viewPlace k) viewWidth y) (p .view k a b)) in
     let es = rejoin serverBytes (serverAt l) l serverWidth serversAt servers
-    (λ k a b. server-plain (part l (serverPlace k) 20) (size (serverPlace k) 20 (omega arith)) (bytes-part l (serverPlace k) 20 y) (p .server k a b)) in
+    (λ k a b. server-plain (part l (serverPlace k) serverWidth) (size (serverPlace k) serverWidth (omega arith)) (bytes-part l (serverPlace k) serverWidth y) (p .server k a b)) in
     let ec = rejoin clientBytes (clientAt l) l clientWidth clientsAt clients
-    (λ k a b. client-plain (part l (clientPlace k) 16) (size (clientPlace k) 16 (omega arith)) (bytes-part l (clientPlace k) 16 y) (p .client k a b)) in
-    let e0 = message-plain (part l 1168 20) (size 1168 20 (omega arith)) (bytes-part l 1168 20 y) (p .message 0 (omega arith)) in
-    let em = rejoin messageBytes (messageAt l) l messageWidth 1188 messages
-    (λ k a b. message-plain (part l (messagePlace k) 20) (size (messagePlace k) 20 (omega arith)) (bytes-part l (messagePlace k) 20 y) (p .message k b) ∙ ap (λ (j : ℕ). part l j 20) (let q : messagePlace k ≡ 1188 + 20 * (k - 1) = omega arith in q)) in
+    (λ k a b. client-plain (part l (clientPlace k) clientWidth) (size (clientPlace k) clientWidth (omega arith)) (bytes-part l (clientPlace k) clientWidth y) (p .client k a b)) in
+    let plain : (n : ℕ) → n ≤ messages → messageBytes (messageAt l n) ≡ part l (messagePlace n) messageWidth
+    = λ n b. message-plain (part l (messagePlace n) messageWidth) (size (messagePlace n) messageWidth (omega arith)) (bytes-part l (messagePlace n) messageWidth y) (p .message n b) in
+    let e0 = plain 0 (omega arith) in
+    let em = rejoin messageBytes (messageAt l) l messageWidth (messagePlace 1) messages
+    (λ k a b. plain k b ∙ ap (λ (j : ℕ). part l j messageWidth) (let q : messagePlace k ≡ messagePlace 1 + messageWidth * (k - 1) = omega arith in q)) in
     rw (eh, ev, es, ec, e0, em) (whole l s)
 
 -- and only then
@@ -151,12 +160,12 @@ plain-image l e =
     let f = decode-full l in
     let back : (a n : ℕ) → part l a n ≡ part (encode (decode l)) a n = λ a n. ap (λ (i : List ℕ). part i a n) (sym e) in
     record {
-      header = plain-header (part l 0 16) (sym (back 0 16 ∙ part-header (decode l) ∙ head l));
-      view = λ t a b. plain-view (part l (viewPlace t) 8) (sym (back (viewPlace t) 8 ∙ part-view (decode l) f t a b ∙ ap viewBytes (view-decode l t a b)));
+      header = plain-header (part l 0 headerWidth) (sym (back 0 headerWidth ∙ part-header (decode l) ∙ head l));
+      view = λ t a b. plain-view (part l (viewPlace t) viewWidth) (sym (back (viewPlace t) viewWidth ∙ part-view (decode l) f t a b ∙ ap viewBytes (view-decode l t a b)));
       server = λ s a b.
-          plain-server (part l (serverPlace s) 20) (sym (back (serverPlace s) 20 ∙ part-server (decode l) f s a b ∙ ap serverBytes (server-decode l s a b)));
+          plain-server (part l (serverPlace s) serverWidth) (sym (back (serverPlace s) serverWidth ∙ part-server (decode l) f s a b ∙ ap serverBytes (server-decode l s a b)));
       client = λ c a b.
-          plain-client (part l (clientPlace c) 16) (sym (back (clientPlace c) 16 ∙ part-client (decode l) f c a b ∙ ap clientBytes (client-decode l c a b)));
+          plain-client (part l (clientPlace c) clientWidth) (sym (back (clientPlace c) clientWidth ∙ part-client (decode l) f c a b ∙ ap clientBytes (client-decode l c a b)));
       message = λ n b.
-          plain-message (part l (messagePlace n) 20) (sym (back (messagePlace n) 20 ∙ part-message (decode l) f n b ∙ ap messageBytes (message-decode l n b)));
+          plain-message (part l (messagePlace n) messageWidth) (sym (back (messagePlace n) messageWidth ∙ part-message (decode l) f n b ∙ ap messageBytes (message-decode l n b)));
     }

@@ -7,6 +7,17 @@ ghost use Rattle.codec.specs.Layout.{imageSize};
 ghost use Rattle.codec.specs.Places.{usedAt, putUsed, administratorAt, putAdministrator, viewAt, putView, serverAt, putServer, clientAt, putClient, messageAt, putMessage};
 use super::bytes::half2;
 use super::bytes::put_bytes;
+use super::layout::ADMINISTRATOR;
+use super::layout::ADMINISTRATOR_AT;
+use super::layout::CLIENT;
+use super::layout::CLIENTS_AT;
+use super::layout::MESSAGE;
+use super::layout::MESSAGES_AT;
+use super::layout::SERVER;
+use super::layout::SERVERS_AT;
+use super::layout::USED_AT;
+use super::layout::VIEW;
+use super::layout::VIEWS_AT;
 use super::records::administrator_bytes;
 use super::records::client_head;
 use super::records::entry_bytes;
@@ -26,28 +37,6 @@ use protocol::Server;
 use protocol::ServerNumber;
 use protocol::View;
 use protocol::ViewNumber;
-
-pub const VIEW: usize = 8;
-
-pub const SERVER: usize = 20;
-
-pub const CLIENT: usize = 16;
-
-pub const MESSAGE: usize = 20;
-
-pub const USED_AT: usize = 2;
-
-pub const ADMINISTRATOR_AT: usize = 4;
-
-pub const VIEWS_AT: usize = 16;
-
-pub const SERVERS_AT: usize = VIEWS_AT + 32 * VIEW;
-
-pub const CLIENTS_AT: usize = SERVERS_AT + 32 * SERVER;
-
-pub const MESSAGES_AT: usize = CLIENTS_AT + 16 * CLIENT;
-
-pub const IMAGE: usize = MESSAGES_AT + 1024 * MESSAGE;
 
 // Messages used.
 pub fn load_used(image: &[u8]) -> u16
@@ -69,7 +58,7 @@ pub fn load_administrator(image: &[u8]) -> Administrator
     requires { ⌜ length (now image) ≡ imageSize ⌝ }
     ensures { λ r. ⌜ r ≡ administratorAt (now (image .entry)) ⌝ }
 {
-    read_administrator(&image[ADMINISTRATOR_AT..ADMINISTRATOR_AT + 4])
+    read_administrator(&image[ADMINISTRATOR_AT..ADMINISTRATOR_AT + ADMINISTRATOR])
 }
 
 pub fn store_administrator(image: &mut [u8], a: Administrator)

@@ -8,6 +8,13 @@ ghost use Rattle.protocol.specs.Clients.{requestOf, endOf, isEnding};
 ghost use Rattle.codec.specs.Records.{entryOf, entryBytes, viewOf, viewBytes, serverOf, serverHead, clientOf, clientHead, messageOf, messageHead, administratorOf, administratorBytes, phaseOf, phaseTag, endingOf, bytesOfStep};
 use super::bytes::half2;
 use super::bytes::word4;
+use super::layout::ADMINISTRATOR;
+use super::layout::CLIENT;
+use super::layout::ENTRY;
+use super::layout::MESSAGE;
+use super::layout::SERVER;
+use super::layout::STEP;
+use super::layout::VIEW;
 use protocol::Administrator;
 use protocol::Client;
 use protocol::Ending;
@@ -37,7 +44,7 @@ pub fn read_entry(b: &[u8]) -> Entry
     }
 }
 
-pub fn entry_bytes(e: Entry) -> [u8; 12]
+pub fn entry_bytes(e: Entry) -> [u8; ENTRY]
     ensures { λ r. ⌜ r ≡ entryBytes e ⌝ }
 {
     let stamp = e.stamp;
@@ -71,7 +78,7 @@ pub fn read_view(b: &[u8]) -> View
     }
 }
 
-pub fn view_bytes(v: View) -> [u8; 8]
+pub fn view_bytes(v: View) -> [u8; VIEW]
     ensures { λ r. ⌜ r ≡ viewBytes v ⌝ }
 {
     let members = v.members;
@@ -92,7 +99,7 @@ pub fn read_server(b: &[u8]) -> Server
     ensures { λ r. ⌜ r ≡ serverOf (now (b .entry)) ⌝ }
 {
     let keys = word4(b[4], b[5], b[6], b[7]);
-    let entry = read_entry(&b[8..20]);
+    let entry = read_entry(&b[8..SERVER]);
     let faulty = b[1] != 0;
     Server {
         view: ViewNumber(b[0]),
@@ -157,7 +164,7 @@ pub fn read_client(b: &[u8]) -> Client
 {
     let request = half2(b[2], b[3]);
     let phase = phase_of(b[0], MessageNumber(request));
-    let entry = read_entry(&b[4..16]);
+    let entry = read_entry(&b[4..CLIENT]);
     Client {
         phase: phase,
         kind: b[1],
@@ -181,7 +188,7 @@ pub fn read_message(b: &[u8]) -> Message
 {
     let request = half2(b[4], b[5]);
     let next = half2(b[6], b[7]);
-    let entry = read_entry(&b[8..20]);
+    let entry = read_entry(&b[8..MESSAGE]);
     let taken = b[3] != 0;
     Message {
         kind: b[0],
@@ -253,7 +260,7 @@ fn ending_number(e: Ending) -> MessageNumber
     }
 }
 
-pub fn administrator_bytes(a: Administrator) -> [u8; 4]
+pub fn administrator_bytes(a: Administrator) -> [u8; ADMINISTRATOR]
     ensures { λ r. ⌜ r ≡ administratorBytes a ⌝ }
 {
     let newest = a.newest;
@@ -282,7 +289,7 @@ pub fn read_step(b: &[u8]) -> Step
     }
 }
 
-pub fn step_bytes(s: Step) -> [u8; 12]
+pub fn step_bytes(s: Step) -> [u8; STEP]
     ensures { λ r. ⌜ r ≡ bytesOfStep s ⌝ }
 {
     let view = s.view;

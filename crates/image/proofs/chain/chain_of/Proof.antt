@@ -1,0 +1,38 @@
+use mathlib.Core.Path.{sym, _∙_}
+use borrow.Author.Tests.{le-leb, lt-leb}
+use borrow.Author.Needs.{needs}
+use Rattle.codec.specs.Laws.{message-decode}
+use Rattle.image.specs.Walks.{chained}
+use Rattle.image.proofs.chain.chain_of.Statement.{statement}
+use Rattle.image.proofs.chain.chain_of.Tie as tie
+
+load-message-requires : tie.Need-load-message-requires
+load-message-requires c κs = search needs
+
+returns : tie.Need-returns
+unfolding chained
+returns c =
+    let i = c .before .before .before .before .before .args .image .now in
+    let e = c .before .before .before .load-message .ensures ∙ sym (message-decode i (c .before .before .before .before .before .args .r .0) (c .before .before .before .before .before .pre .1)) in
+    rw (← e, lt-leb _ _ (c .if1 .taken))
+
+returns-2 : tie.Need-returns-2
+unfolding chained
+returns-2 c =
+    let i = c .before .before .before .before .before .before .before .args .image .now in
+    let e = c .before .before .before .before .before .load-message .ensures ∙ sym (message-decode i (c .before .before .before .before .before .before .before .args .r .0) (c .before .before .before .before .before .before .before .pre .1)) in
+    rw (← e, le-leb _ _ (c .before .before .if1 .left), lt-leb _ _ (c .if2 .taken))
+
+walk-requires : tie.Need-walk-requires
+walk-requires c κs = search needs
+
+returns-3 : tie.Need-returns-3
+unfolding chained
+returns-3 c =
+    let i = c .before .before .before .before .before .before .before .before .args .image .now in
+    let e = c .before .before .before .before .before .before .load-message .ensures ∙ sym (message-decode i (c .before .before .before .before .before .before .before .before .args .r .0) (c .before .before .before .before .before .before .before .before .pre .1)) in
+    rw (← e, le-leb _ _ (c .before .before .before .if1 .left), le-leb _ _ (c .before .if2 .left)) (c .walk .ensures)
+
+pub chain-of-spec : {M : Type 1} → statement M
+chain-of-spec =
+    tie.close (tie.spec load-message-requires returns returns-2 walk-requires returns-3)

@@ -1,0 +1,115 @@
+use mathlib.Core.Path.{_≡_, sym, _∙_}
+use mathlib.Core.Bool.{true}
+use Prim.Native.Nat.{_+_, _*_, _-_, _≤_}
+use native.Mathlib.Omega.{arith}
+use borrow.Author.Needs.{needs}
+use Rattle.image.specs.Tests.{pass}
+use Rattle.codec.specs.Images.{decode}
+use Rattle.image.specs.Scan.{open-used, chains-rule}
+use Rattle.protocol.specs.Tools.{countTo, allTo}
+use Rattle.image.specs.Loops.{all-start, all-more, all-fails, count-start, count-more, count-most, sum-start, sum-more}
+use Rattle.image.specs.Walks.{chained-links, whole, broken, links-most}
+use Rattle.image.specs.Chains.{chainSound, links, isTaken}
+use Rattle.image.specs.Counts.{sumTo}
+use Rattle.image.proofs.chain.chains_fit.Statement.{statement}
+use Rattle.image.proofs.chain.chains_fit.Tie as tie
+
+abbrev Inv-loop : tie.InvT-loop
+Inv-loop image used sum₀ taken₀ k₀ sum taken k =
+    (k ≤ used)
+    × (allTo (chainSound (decode image)) k ≡ true)
+    × (sum ≡ sumTo (links (decode image)) k)
+    × (taken ≡ countTo (isTaken (decode image)) k)
+    × (sum ≤ 1023 * k)
+
+abbrev μ-loop : tie.MeasureT-loop
+μ-loop image used sum₀ taken₀ k₀ sum taken k = used - k
+
+load-used-requires : tie.Need-load-used-requires Inv-loop μ-loop
+load-used-requires c κs = c .before .pre .size
+
+loop-holds : tie.Need-loop-holds Inv-loop μ-loop
+loop-holds c = (omega arith, all-start (chainSound (decode (c .before .before .args .image .now))), sym (sum-start (links (decode (c .before .before .args .image .now)))), sym (count-start (isTaken (decode (c .before .before .args .image .now)))), omega arith)
+
+add-t10 : tie.Need-add-t10 Inv-loop μ-loop
+add-t10 c = search needs
+
+chain-of-requires : tie.Need-chain-of-requires Inv-loop μ-loop
+chain-of-requires c κs = (c .before .before .before .before .pre, (let h = open-used (c .before .before .before .before .args .image .now) (c .before .before .before .before .pre) in omega (arith, c .before .before .load-used .ensures)))
+
+enum-known-chain : tie.Need-enum-known-chain Inv-loop μ-loop
+enum-known-chain c = search needs
+
+enum-told : tie.Need-enum-told Inv-loop μ-loop
+enum-told c = search needs
+
+returns : tie.Need-returns Inv-loop μ-loop
+returns c =
+    let q = broken (chainSound (decode (c .before .before .before .before .before .before .before .args .image .now)) (c .before .before .before .before .loop .k + 1)) (links (decode (c .before .before .before .before .before .before .before .args .image .now)) (c .before .before .before .before .loop .k + 1)) (sym (chained-links (decode (c .before .before .before .before .before .before .before .args .image .now)) (c .before .before .before .before .loop .k + 1)) ∙ sym (c .before .before .chain-of .ensures) ∙ c .enum-told .given .1) in
+    rw (chains-rule (c .before .before .before .before .before .before .before .args .image .now) (c .before .before .before .before .before .load-used .result) (c .before .before .before .before .before .load-used .ensures), all-fails (chainSound (decode (c .before .before .before .before .before .before .before .args .image .now))) (c .before .before .before .before .before .load-used .result) (c .before .before .before .before .loop .k + 1) (omega arith) (omega arith) q)
+
+cast-sum : tie.Need-cast-sum Inv-loop μ-loop
+cast-sum c = search needs
+
+add-sum : tie.Need-add-sum Inv-loop μ-loop
+add-sum c =
+    let h = open-used (c .before .before .before .before .before .before .before .before .args .image .now) (c .before .before .before .before .before .before .before .before .pre) in
+    let q = whole (chainSound (decode (c .before .before .before .before .before .before .before .before .args .image .now)) (c .before .before .before .before .before .loop .k + 1)) (links (decode (c .before .before .before .before .before .before .before .before .args .image .now)) (c .before .before .before .before .before .loop .k + 1)) (c .before .chain .given .0 .0) (sym (chained-links (decode (c .before .before .before .before .before .before .before .before .args .image .now)) (c .before .before .before .before .before .loop .k + 1)) ∙ sym (c .before .before .before .chain-of .ensures) ∙ c .before .chain .given .1) in
+    omega (arith, c .before .before .before .before .before .before .load-used .ensures, links-most (decode (c .before .before .before .before .before .before .before .before .args .image .now)) (c .before .before .before .before .before .loop .k + 1))
+
+taken-bit-requires : tie.Need-taken-bit-requires Inv-loop μ-loop
+taken-bit-requires c κs = (c .before .before .before .before .before .before .before .before .pre, (let h = open-used (c .before .before .before .before .before .before .before .before .args .image .now) (c .before .before .before .before .before .before .before .before .pre) in omega (arith, c .before .before .before .before .before .before .load-used .ensures)))
+
+add-taken : tie.Need-add-taken Inv-loop μ-loop
+add-taken c =
+    let h = open-used (c .before .before .before .before .before .before .before .before .before .args .image .now) (c .before .before .before .before .before .before .before .before .before .pre) in
+    omega (arith, c .before .before .before .before .before .before .before .load-used .ensures, c .taken-bit .ensures, count-more (isTaken (decode (c .before .before .before .before .before .before .before .before .before .args .image .now))) (c .before .before .before .before .before .before .loop .k), count-most (isTaken (decode (c .before .before .before .before .before .before .before .before .before .args .image .now))) (c .before .before .before .before .before .before .loop .k + 1))
+
+add-k : tie.Need-add-k Inv-loop μ-loop
+add-k c = search needs
+
+loop-less : tie.Need-loop-less Inv-loop μ-loop
+loop-less c = search needs
+
+loop-again : tie.Need-loop-again Inv-loop μ-loop
+loop-again c =
+    let w = (decode (c .before .before .before .before .before .before .before .before .before .args .image .now)) in
+    let q = whole (chainSound w (c .before .before .before .before .before .before .loop .k + 1)) (links w (c .before .before .before .before .before .before .loop .k + 1)) (c .before .before .chain .given .0 .0) (sym (chained-links w (c .before .before .before .before .before .before .loop .k + 1)) ∙ sym (c .before .before .before .before .chain-of .ensures) ∙ c .before .before .chain .given .1) in
+    let s = sum-more (links w) (c .before .before .before .before .before .before .loop .k) in
+    let t = count-more (isTaken w) (c .before .before .before .before .before .before .loop .k) in
+    let m = links-most w (c .before .before .before .before .before .before .loop .k + 1) in
+    let b = c .taken-bit .ensures in
+    let i = c .before .before .before .before .before .before .loop .inv in (
+      omega arith,
+      all-more (chainSound w) (c .before .before .before .before .before .before .loop .k) (i .1) (q .0),
+      omega arith,
+      omega arith,
+      omega arith,
+    )
+
+returns-2 : tie.Need-returns-2 Inv-loop μ-loop
+returns-2 c =
+    let e : c .before .loop .k ≡ c .before .before .load-used .result = omega arith in
+    rw (chains-rule (c .before .before .before .before .args .image .now) (c .before .before .load-used .result) (c .before .before .load-used .ensures), ← e) (pass (c .before .loop .inv .1) (rw (← c .before .loop .inv .2, ← c .before .loop .inv .3)))
+
+pub chains-fit-spec : {M : Type 1} → statement M
+chains-fit-spec =
+    tie.close
+    (tie.spec
+    Inv-loop
+    μ-loop
+    load-used-requires
+    loop-holds
+    add-t10
+    chain-of-requires
+    enum-known-chain
+    enum-told
+    returns
+    cast-sum
+    add-sum
+    taken-bit-requires
+    add-taken
+    add-k
+    loop-less
+    loop-again
+    returns-2)

@@ -1,0 +1,21 @@
+use mathlib.Core.Path.{sym, _∙_}
+use borrow.Author.Needs.{needs}
+use Rattle.codec.specs.Laws.{message-decode}
+use Rattle.image.proofs.chain.taken_bit.Statement.{statement}
+use Rattle.image.proofs.chain.taken_bit.Tie as tie
+
+load-message-requires : tie.Need-load-message-requires
+load-message-requires c κs = search needs
+
+cast-result : tie.Need-cast-result
+cast-result c = search needs
+
+returns : tie.Need-returns
+returns c =
+    let i = c .before .before .before .args .image .now in
+    let n = c .before .before .before .args .n .0 in
+    let e = c .before .load-message .ensures ∙ sym (message-decode i n (c .before .before .before .pre .1)) in
+    rw e
+
+pub taken-bit-spec : {M : Type 1} → statement M
+taken-bit-spec = tie.close (tie.spec load-message-requires cast-result returns)

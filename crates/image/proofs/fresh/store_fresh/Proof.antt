@@ -1,0 +1,43 @@
+use borrow.Author.Needs.{needs}
+use Rattle.image.specs.Fresh.{fresh-stored}
+use Rattle.image.proofs.fresh.store_fresh.Statement.{statement}
+use Rattle.image.proofs.fresh.store_fresh.Tie as tie
+
+clear-requires : tie.Need-clear-requires
+clear-requires c κs = search needs
+
+slice-aggregate-put-bytes : tie.Need-slice-aggregate-put-bytes
+slice-aggregate-put-bytes c = search needs
+
+put-bytes-requires : tie.Need-put-bytes-requires
+put-bytes-requires c κs = search needs
+
+store-administrator-requires : tie.Need-store-administrator-requires
+store-administrator-requires c κs = search needs
+
+store-view-requires : tie.Need-store-view-requires
+store-view-requires c κs = search needs
+
+store-servers-requires : tie.Need-store-servers-requires
+store-servers-requires c κs = search needs
+
+same-length : tie.Need-same-length
+same-length c = search needs
+
+returns : tie.Need-returns
+returns c =
+    rw (c .before .before .store-servers .ensures, c .before .before .before .before .before .before .store-view .ensures, c .before .before .before .before .before .before .before .before .before .before .store-administrator .ensures, c .before .before .before .before .before .before .before .before .before .before .before .before .before .before .put-bytes .ensures, c .before .before .before .before .before .before .before .before .before .before .before .before .before .before .before .before .before .before .before .clear .ensures)
+    (fresh-stored (c .before .before .before .before .before .before .before .before .before .before .before .before .before .before .before .before .before .before .before .before .before .before .args .image .now) (c .before .before .before .before .before .before .before .before .before .before .before .before .before .before .before .before .before .before .before .before .before .before .args .v) (c .before .before .before .before .before .before .before .before .before .before .before .before .before .before .before .before .before .before .before .before .before .before .pre))
+
+pub store-fresh-spec : {M : Type 1} → statement M
+store-fresh-spec =
+    tie.close
+    (tie.spec
+    clear-requires
+    slice-aggregate-put-bytes
+    put-bytes-requires
+    store-administrator-requires
+    store-view-requires
+    store-servers-requires
+    same-length
+    returns)

@@ -1,0 +1,68 @@
+use mathlib.Core.Path.{_≡_, ap, sym, _∙_}
+use Prim.Native.Nat.{_-_, _≤_}
+use native.Mathlib.Omega.{arith}
+use lib.ListN.{length}
+use borrow.Author.Needs.{needs}
+use Rattle.codec.specs.Layout.{imageSize}
+use Rattle.image.specs.Fresh.{seeded, seeded-start, seeded-more}
+use Rattle.image.proofs.fresh.store_servers.Statement.{statement}
+use Rattle.image.proofs.fresh.store_servers.Tie as tie
+
+abbrev Inv-loop : tie.InvT-loop
+Inv-loop image₀ members k₀ image k = (k ≤ 32) × (image ≡ seeded image₀ members k) × (length image ≡ imageSize)
+
+abbrev μ-loop : tie.MeasureT-loop
+μ-loop image₀ members k₀ image k = 32 - k
+
+loop-holds : tie.Need-loop-holds Inv-loop μ-loop
+loop-holds c = (omega arith, sym (seeded-start (c .before .args .image .now) (c .before .args .members)), c .before .pre)
+
+add-fresh-server : tie.Need-add-fresh-server Inv-loop μ-loop
+add-fresh-server c = search needs
+
+fresh-server-requires : tie.Need-fresh-server-requires Inv-loop μ-loop
+fresh-server-requires c κs = search needs
+
+add-t6 : tie.Need-add-t6 Inv-loop μ-loop
+add-t6 c = search needs
+
+store-server-requires : tie.Need-store-server-requires Inv-loop μ-loop
+store-server-requires c κs = search needs
+
+add-k : tie.Need-add-k Inv-loop μ-loop
+add-k c = search needs
+
+loop-less : tie.Need-loop-less Inv-loop μ-loop
+loop-less c = search needs
+
+loop-again : tie.Need-loop-again Inv-loop μ-loop
+loop-again c = (
+  omega arith,
+  rw (seeded-more (c .before .before .before .before .before .before .before .before .args .image .now) (c .before .before .before .before .before .before .before .before .args .members) (c .before .before .before .before .before .before .loop .k), ← c .before .before .before .before .before .before .loop .inv .1, ← c .before .before .before .before .fresh-server .ensures) (c .before .before .store-server .ensures),
+  search needs,
+)
+
+same-length : tie.Need-same-length Inv-loop μ-loop
+same-length c = search needs
+
+returns : tie.Need-returns Inv-loop μ-loop
+returns c =
+    let e : c .before .loop .k ≡ 32 = omega arith in
+    c .before .loop .inv .1 ∙ ap (seeded (c .before .before .before .args .image .now) (c .before .before .before .args .members)) e
+
+pub store-servers-spec : {M : Type 1} → statement M
+store-servers-spec =
+    tie.close
+    (tie.spec
+    Inv-loop
+    μ-loop
+    loop-holds
+    add-fresh-server
+    fresh-server-requires
+    add-t6
+    store-server-requires
+    add-k
+    loop-less
+    loop-again
+    same-length
+    returns)

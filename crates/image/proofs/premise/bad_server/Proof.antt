@@ -1,0 +1,33 @@
+use mathlib.Core.Path.{ap}
+use borrow.Author.Tests.{not-true, not-false}
+use borrow.Author.Needs.{needs}
+use Rattle.protocol.specs.Worlds.{bad}
+use Rattle.codec.specs.Laws.{server-decode}
+use Rattle.protocol.specs.Tools.{bit}
+use Rattle.image.proofs.premise.bad_server.Statement.{statement}
+use Rattle.image.proofs.premise.bad_server.Tie as tie
+
+load-server-requires : tie.Need-load-server-requires
+load-server-requires c κs = search needs
+
+returns : tie.Need-returns
+unfolding bad
+returns c =
+    let i = c .before .before .before .before .args .image .now in
+    rw (server-decode i (c .before .before .before .before .args .s .0) (c .before .before .before .before .pre .3) (c .before .before .before .before .pre .4), ← c .before .before .load-server .ensures, not-true (c .before .before .load-server .result .faulty) (c .if1 .taken))
+
+holds-requires : tie.Need-holds-requires
+holds-requires c κs = search needs
+
+cast-result : tie.Need-cast-result
+cast-result c = search needs
+
+returns-2 : tie.Need-returns-2
+unfolding bad
+returns-2 c =
+    let i = c .before .before .before .before .before .args .image .now in
+    rw (server-decode i (c .before .before .before .before .before .args .s .0) (c .before .before .before .before .before .pre .3) (c .before .before .before .before .before .pre .4), ← c .before .before .before .load-server .ensures, not-false (c .before .before .before .load-server .result .faulty) (c .before .if1 .left)) (ap bit (c .holds .ensures))
+
+pub bad-server-spec : {M : Type 1} → statement M
+bad-server-spec =
+    tie.close (tie.spec load-server-requires returns holds-requires cast-result returns-2)

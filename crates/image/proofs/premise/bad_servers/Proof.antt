@@ -1,0 +1,57 @@
+use mathlib.Core.Path.{_≡_, ap, sym, _∙_}
+use Prim.Native.Nat.{_+_, _-_, _≤_}
+use native.Mathlib.Omega.{arith}
+use borrow.Author.Needs.{needs}
+use Rattle.protocol.specs.Worlds.{bad}
+use Rattle.codec.specs.Images.{decode}
+use Rattle.protocol.specs.Tools.{countTo}
+use Rattle.image.specs.Loops.{count-start, count-more, count-most}
+use Rattle.image.proofs.premise.bad_servers.Statement.{statement}
+use Rattle.image.proofs.premise.bad_servers.Tie as tie
+
+abbrev Inv-loop : tie.InvT-loop
+Inv-loop image t n₀ k₀ n k = (k ≤ 32) × (n ≡ countTo (bad (decode image) t) k)
+
+abbrev μ-loop : tie.MeasureT-loop
+μ-loop image t n₀ k₀ n k = 32 - k
+
+loop-holds : tie.Need-loop-holds Inv-loop μ-loop
+loop-holds c = (omega arith, sym (count-start (bad (decode (c .before .args .image .now)) (c .before .args .t))))
+
+add-t7 : tie.Need-add-t7 Inv-loop μ-loop
+add-t7 c = search needs
+
+bad-server-requires : tie.Need-bad-server-requires Inv-loop μ-loop
+bad-server-requires c κs = (c .before .before .before .pre .0, c .before .before .before .pre .1, c .before .before .before .pre .2, omega arith, omega arith)
+
+add-n : tie.Need-add-n Inv-loop μ-loop
+add-n c = omega (arith, count-most (bad (decode (c .before .before .before .before .args .image .now)) (c .before .before .before .before .args .t)) (c .before .before .loop .k + 1), count-more (bad (decode (c .before .before .before .before .args .image .now)) (c .before .before .before .before .args .t)) (c .before .before .loop .k), c .bad-server .ensures)
+
+add-k : tie.Need-add-k Inv-loop μ-loop
+add-k c = search needs
+
+loop-less : tie.Need-loop-less Inv-loop μ-loop
+loop-less c = search needs
+
+loop-again : tie.Need-loop-again Inv-loop μ-loop
+loop-again c = (omega arith, sym (count-more (bad (decode (c .before .before .before .before .args .image .now)) (c .before .before .before .before .args .t)) (c .before .before .loop .k) ∙ (let e = c .before .before .loop .inv .1 in let f = c .bad-server .ensures in omega arith)))
+
+returns : tie.Need-returns Inv-loop μ-loop
+returns c =
+    let e : c .before .loop .k ≡ 32 = omega arith in
+    c .before .loop .inv .1 ∙ ap (countTo (bad (decode (c .before .before .before .args .image .now)) (c .before .before .before .args .t))) e
+
+pub bad-servers-spec : {M : Type 1} → statement M
+bad-servers-spec =
+    tie.close
+    (tie.spec
+    Inv-loop
+    μ-loop
+    loop-holds
+    add-t7
+    bad-server-requires
+    add-n
+    add-k
+    loop-less
+    loop-again
+    returns)

@@ -1,0 +1,26 @@
+use mathlib.Core.Path.{sym}
+use borrow.Author.Needs.{needs}
+use Rattle.image.specs.Scan.{lastOf}
+use native.Mathlib.Nat.{add-zero}
+use Rattle.image.proofs.readable.last_of.Statement.{statement}
+use Rattle.image.proofs.readable.last_of.Tie as tie
+
+enum-told : tie.Need-enum-told
+enum-told c = search needs
+
+enum-told-2 : tie.Need-enum-told-2
+enum-told-2 c = search needs
+
+add-result : tie.Need-add-result
+add-result c = search needs
+
+returns : tie.Need-returns
+unfolding lastOf
+returns c = rw (c .enum-told .given .1) (sym (add-zero _))
+
+returns-2 : tie.Need-returns-2
+unfolding lastOf
+returns-2 c = rw (c .before .enum-told2 .given .1)
+
+pub last-of-spec : {M : Type 1} → statement M
+last-of-spec = tie.close (tie.spec enum-told enum-told-2 add-result returns returns-2)

@@ -1,0 +1,67 @@
+use mathlib.Core.Path.{ap, sym, _∙_}
+use borrow.Author.Tests.{not-true, not-false}
+use borrow.Author.Needs.{needs}
+use Rattle.image.specs.Tests.{pass}
+use Rattle.image.specs.Scan.{messageOk}
+use Rattle.codec.specs.Spelling.{messagePlain}
+use Rattle.codec.specs.Lists.{span}
+use Rattle.codec.specs.Layout.{messagePlace, messageWidth}
+use Rattle.image.proofs.readable.message_ok.Statement.{statement}
+use Rattle.image.proofs.readable.message_ok.Tie as tie
+
+cast-at : tie.Need-cast-at
+cast-at c = search needs
+
+mul-at : tie.Need-mul-at
+mul-at c = search needs
+
+add-at : tie.Need-add-at
+add-at c = search needs
+
+add-message-plain : tie.Need-add-message-plain
+add-message-plain c = search needs
+
+sub-message-plain : tie.Need-sub-message-plain
+sub-message-plain c = search needs
+
+part-message-plain-start : tie.Need-part-message-plain-start
+part-message-plain-start c = search needs
+
+part-message-plain-end : tie.Need-part-message-plain-end
+part-message-plain-end c = search needs
+
+message-plain-requires : tie.Need-message-plain-requires
+message-plain-requires c κs = search needs
+
+returns : tie.Need-returns
+unfolding messageOk
+returns c =
+    let i = c .before .before .before .before .args .image .now in
+    let q = c .before .message-plain .ensures ∙ ap messagePlain (span i (messagePlace (c .before .before .before .before .args .n .0)) messageWidth) in
+    rw (sym q ∙ not-true _ (c .if1 .taken))
+
+message-fits-requires : tie.Need-message-fits-requires
+message-fits-requires c κs = search needs
+
+returns-2 : tie.Need-returns-2
+unfolding messageOk
+returns-2 c =
+    let i = c .before .before .before .before .before .args .image .now in
+    let q = c .before .before .message-plain .ensures ∙ ap messagePlain (span i (messagePlace (c .before .before .before .before .before .args .n .0)) messageWidth) in
+    pass (sym q ∙ not-false _ (c .before .if1 .left)) (c .message-fits .ensures)
+
+pub message-ok-spec : {M : Type 1} → statement M
+message-ok-spec =
+    tie.close
+    (tie.spec
+    cast-at
+    mul-at
+    add-at
+    add-message-plain
+    sub-message-plain
+    part-message-plain-start
+    part-message-plain-end
+    message-plain-requires
+    returns
+    message-fits-requires
+    returns-2)

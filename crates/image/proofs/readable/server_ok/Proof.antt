@@ -1,0 +1,76 @@
+use mathlib.Core.Path.{ap, sym, _∙_}
+use native.Mathlib.Omega.{arith}
+use borrow.Author.Tests.{not-true, not-false}
+use borrow.Author.Needs.{needs}
+use Rattle.image.specs.Tests.{pass}
+use Rattle.image.specs.Scan.{server-rule, serverOk, open-high}
+use Rattle.codec.specs.Spelling.{serverPlain}
+use Rattle.codec.specs.Lists.{span}
+use Rattle.codec.specs.Layout.{serverPlace, serverWidth}
+use Rattle.image.proofs.readable.server_ok.Statement.{statement}
+use Rattle.image.proofs.readable.server_ok.Tie as tie
+
+cast-at : tie.Need-cast-at
+cast-at c = search needs
+
+sub-at : tie.Need-sub-at
+sub-at c = search needs
+
+mul-at : tie.Need-mul-at
+mul-at c = search needs
+
+add-at : tie.Need-add-at
+add-at c = search needs
+
+add-server-plain : tie.Need-add-server-plain
+add-server-plain c = search needs
+
+sub-server-plain : tie.Need-sub-server-plain
+sub-server-plain c = search needs
+
+part-server-plain-start : tie.Need-part-server-plain-start
+part-server-plain-start c = search needs
+
+part-server-plain-end : tie.Need-part-server-plain-end
+part-server-plain-end c = search needs
+
+server-plain-requires : tie.Need-server-plain-requires
+server-plain-requires c κs = search needs
+
+returns : tie.Need-returns
+unfolding serverOk
+returns c =
+    let i = c .before .before .before .before .args .image .now in
+    let q = c .before .server-plain .ensures ∙ ap serverPlain (span i (serverPlace (c .before .before .before .before .args .s .0)) serverWidth) in
+    rw (sym q ∙ not-true _ (c .if1 .taken))
+
+load-server-requires : tie.Need-load-server-requires
+load-server-requires c κs = search needs
+
+server-fits-requires : tie.Need-server-fits-requires
+server-fits-requires c κs = let h = open-high (c .before .before .before .before .before .args .image .now) (c .before .before .before .before .before .pre .0) in omega (arith, c .before .before .before .before .before .pre .3)
+
+returns-2 : tie.Need-returns-2
+unfolding serverOk
+returns-2 c =
+    let i = c .before .before .before .before .before .before .args .image .now in
+    let q = c .before .before .before .server-plain .ensures ∙ ap serverPlain (span i (serverPlace (c .before .before .before .before .before .before .args .s .0)) serverWidth) in
+    pass (sym q ∙ not-false _ (c .before .before .if1 .left)) (rw (server-rule i (c .before .before .before .before .before .before .args .s .0) (c .before .before .before .before .before .before .pre .1) (c .before .before .before .before .before .before .pre .2), ← c .before .before .before .before .before .before .pre .3, ← c .before .load-server .ensures) (c .server-fits .ensures))
+
+pub server-ok-spec : {M : Type 1} → statement M
+server-ok-spec =
+    tie.close
+    (tie.spec
+    cast-at
+    sub-at
+    mul-at
+    add-at
+    add-server-plain
+    sub-server-plain
+    part-server-plain-start
+    part-server-plain-end
+    server-plain-requires
+    returns
+    load-server-requires
+    server-fits-requires
+    returns-2)

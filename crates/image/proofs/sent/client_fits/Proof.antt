@@ -1,0 +1,35 @@
+use mathlib.Core.Path.{sym, _∙_}
+use borrow.Author.Tests.{not-true, not-false}
+use borrow.Author.Needs.{needs}
+use Rattle.image.specs.Tests.{pass}
+use Rattle.image.specs.Scan.{client-rule}
+use Rattle.image.proofs.sent.client_fits.Statement.{statement}
+use Rattle.image.proofs.sent.client_fits.Tie as tie
+
+load-client-requires : tie.Need-load-client-requires
+load-client-requires c κs = search needs
+
+entry-fits-requires : tie.Need-entry-fits-requires
+entry-fits-requires c κs = search needs
+
+returns : tie.Need-returns
+returns c =
+    let i = c .before .before .before .before .before .args .image .now in
+    let n = c .before .before .before .before .before .args .c in
+    let r = client-rule i n (c .before .before .before .before .before .pre .1) (c .before .before .before .before .before .pre .2) in
+    rw (r, ← c .before .before .before .load-client .ensures) (rw (sym (c .before .entry-fits .ensures) ∙ not-true _ (c .if1 .taken)))
+
+phase-fits-requires : tie.Need-phase-fits-requires
+phase-fits-requires c κs = search needs
+
+returns-2 : tie.Need-returns-2
+returns-2 c =
+    let i = c .before .before .before .before .before .before .args .image .now in
+    let n = c .before .before .before .before .before .before .args .c in
+    let r = client-rule i n (c .before .before .before .before .before .before .pre .1) (c .before .before .before .before .before .before .pre .2) in
+    rw (r, ← c .before .before .before .before .load-client .ensures) (pass (sym (c .before .before .entry-fits .ensures) ∙ not-false _ (c .before .if1 .left)) (c .phase-fits .ensures))
+
+pub client-fits-spec : {M : Type 1} → statement M
+client-fits-spec =
+    tie.close
+    (tie.spec load-client-requires entry-fits-requires returns phase-fits-requires returns-2)

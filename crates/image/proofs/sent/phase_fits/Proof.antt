@@ -1,0 +1,44 @@
+use borrow.Author.Needs.{needs}
+use Rattle.image.proofs.sent.phase_fits.Statement.{statement}
+use Rattle.image.proofs.sent.phase_fits.Tie as tie
+
+enum-told : tie.Need-enum-told
+enum-told c = search needs
+
+idle-fits-requires : tie.Need-idle-fits-requires
+idle-fits-requires c κs = search needs
+
+enum-known-phase : tie.Need-enum-known-phase
+enum-known-phase c = search needs
+
+reading-fits-requires : tie.Need-reading-fits-requires
+reading-fits-requires c κs = search needs
+
+enum-known-phase-2 : tie.Need-enum-known-phase-2
+enum-known-phase-2 c = search needs
+
+writing-fits-requires : tie.Need-writing-fits-requires
+writing-fits-requires c κs = search needs
+
+returns : tie.Need-returns
+returns c = rw (c .before .enum-told .given .1) (c .idle-fits .ensures)
+
+returns-2 : tie.Need-returns-2
+returns-2 c = rw (c .before .before .phase .given .1) (c .reading-fits .ensures)
+
+returns-3 : tie.Need-returns-3
+returns-3 c = rw (c .before .before .phase2 .given .1) (c .writing-fits .ensures)
+
+pub phase-fits-spec : {M : Type 1} → statement M
+phase-fits-spec =
+    tie.close
+    (tie.spec
+    enum-told
+    idle-fits-requires
+    enum-known-phase
+    reading-fits-requires
+    enum-known-phase-2
+    writing-fits-requires
+    returns
+    returns-2
+    returns-3)

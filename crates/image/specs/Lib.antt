@@ -1,0 +1,12 @@
+pub mod Tests
+pub mod Counts
+pub mod Links
+pub mod Formed
+pub mod Chains
+pub mod Readable
+pub mod Scan
+pub mod Loops
+pub mod Walks
+pub mod Fresh
+pub mod Premise
+pub mod Begun

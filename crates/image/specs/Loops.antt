@@ -1,0 +1,62 @@
+-- What loops over the numbers 1 to n give, and bits by shifts. Assumes nothing.
+use mathlib.Core.Path.{_≡_, refl}
+use mathlib.Core.Bool.{Bool, true, false}
+use Prim.Native.Nat.{ℕ, zero, suc, _+_, _-_, _/_, _%_, _≤_, _^_}
+use native.Mathlib.Nat.{not-suc-le-zero}
+use native.Mathlib.Numerals.{add-one}
+use native.Mathlib.Omega.{arith}
+use lib.Dec.{eqb}
+use Rattle.protocol.specs.Tools.{bit, countTo, allTo, holds, bitOf}
+use Rattle.codec.specs.Spelling.{join}
+use Rattle.codec.specs.Whole.{all-at}
+use Rattle.image.specs.Tests.{by-test, clash}
+use Rattle.image.specs.Counts.{sumTo}
+
+pub holds-at : (bits k : ℕ) → 1 ≤ k → holds bits k ≡ eqb (bits / 2 ^ (k - 1) % 2) 1
+unfolding holds
+holds-at bits zero h = absurd (not-suc-le-zero h)
+holds-at bits (suc k) h = let e : suc k - 1 ≡ k = omega arith in rw e
+
+pub bitOf-at : (k : ℕ) → 1 ≤ k → bitOf k ≡ 2 ^ (k - 1)
+unfolding bitOf
+bitOf-at zero h = absurd (not-suc-le-zero h)
+bitOf-at (suc k) h = let e : suc k - 1 ≡ k = omega arith in rw e
+
+bit-le : (b : Bool) → bit b ≤ 1
+bit-le true = omega arith
+bit-le false = omega arith
+
+module _ (p : ℕ → Bool) where
+  pub count-start : countTo p 0 ≡ 0
+  unfolding countTo
+  count-start = refl
+
+  pub count-more : (n : ℕ) → countTo p (n + 1) ≡ countTo p n + bit (p (n + 1))
+  unfolding countTo
+  count-more n = rw add-one
+
+  pub count-most : (n : ℕ) → countTo p n ≤ n
+  unfolding countTo
+  count-most zero = omega arith
+  count-most (suc n) = let ih = count-most n in omega (arith, bit-le (p (suc n)))
+
+  pub all-start : allTo p 0 ≡ true
+  unfolding allTo
+  all-start = refl
+
+  pub all-more : (n : ℕ) → allTo p n ≡ true → p (n + 1) ≡ true → allTo p (n + 1) ≡ true
+  unfolding allTo
+  all-more n a b = rw add-one (join a (rw add-one at b))
+
+  pub all-fails : (n k : ℕ) → 1 ≤ k → k ≤ n → p k ≡ false → allTo p n ≡ false
+  all-fails n k l m e =
+      by-test {P = allTo p n ≡ false} (allTo p n) (λ a. clash (p k) (all-at p n k a l m) e) (λ a. a)
+
+module _ (g : ℕ → ℕ) where
+  pub sum-start : sumTo g 0 ≡ 0
+  unfolding sumTo
+  sum-start = refl
+
+  pub sum-more : (n : ℕ) → sumTo g (n + 1) ≡ sumTo g n + g (n + 1)
+  unfolding sumTo
+  sum-more n = rw add-one

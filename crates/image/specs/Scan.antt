@@ -1,0 +1,251 @@
+-- Readable, tested record by record on the bytes. Assumes nothing.
+use mathlib.Core.Path.{_≡_, sym, _∙_}
+use mathlib.Core.Bool.{Bool, true, false, not, _&&_, _||_}
+use mathlib.Core.List.{List}
+use Prim.Native.Nat.{ℕ, zero, suc, _+_, _≤_, _^_}
+use native.Mathlib.Omega.{arith}
+use lib.ListN.{length}
+use lib.Dec.{ltb, leb, eqb}
+use borrow.Author.Tests.{ne-eqb}
+use Rattle.protocol.specs.declared.View.{View}
+use Rattle.protocol.specs.declared.Server.{Server}
+use Rattle.protocol.specs.declared.Client.{Client}
+use Rattle.protocol.specs.declared.MessageNumber.{MessageNumber}
+use Rattle.protocol.specs.declared.Ending.the-variants.{EndSent}
+use Rattle.protocol.specs.declared.Administrator.{Administrator}
+use Rattle.protocol.specs.Tools.{if, bit, within, countTo, allTo, bitOf}
+use Rattle.protocol.specs.Sizes.{clients, servers, views, messages, sized}
+use Rattle.protocol.specs.Entries.{empty, countOf, writerOf, same, entryFits}
+use Rattle.protocol.specs.Servers.{WRITE, END}
+use Rattle.protocol.specs.Clients.{NONE, WRITES, READS, isEnding}
+use Rattle.protocol.specs.Worlds.{message, newest, present}
+use Rattle.protocol.specs.Readable.{isSent, endingFits, viewTagFits, sentFits, phaseFits, headerFits, lastView, viewFits, serverFits, clientFits, zeroMessage, messageFits, takenAnswer}
+use Rattle.codec.specs.Layout.{imageSize, headerWidth}
+use Rattle.codec.specs.Lists.{part}
+use Rattle.codec.specs.Bytes.{Bytes}
+use Rattle.codec.specs.Places.{usedAt, administratorAt, viewAt, serverAt, clientAt, messageAt}
+use Rattle.codec.specs.Images.{decode}
+use Rattle.codec.specs.Laws.{decode-full, used-decode, view-decode, server-decode, client-decode, message-decode}
+use Rattle.codec.specs.Spelling.{both, join, headerPlain}
+use Rattle.codec.specs.Whole.{Plain, viewPlainAt, serverPlainAt, clientPlainAt, messagePlainAt, all-at, all-of, encode-decode, plain-image}
+use Rattle.image.specs.Tests.{as-one}
+use Rattle.image.specs.Counts.{Each, sumTo}
+use Rattle.image.specs.Formed.{Formed, formed, well-formed, Headed, headed, present-in}
+use Rattle.image.specs.Chains.{chainSound, links, isTaken, chainsFit, chains-fit, taken-parts}
+use Rattle.image.specs.Readable.{readable, Read, read, read-back}
+
+-- ---- the tests of single records
+
+unfoldable pub viewRule : ℕ → ℕ → View → Bool
+viewRule last t v = if (leb t last) (sized v) (eqb (v .members) 0 && eqb (v .f) 0)
+
+-- "a correct server has no key but its own view's"
+unfoldable pub keyRule : Server → Bool
+keyRule a = a .faulty || (eqb (a .keys) 0 || eqb (a .keys) (bitOf (a .view .0)))
+
+unfoldable pub serverRule : ℕ → Server → Bool
+serverRule newest a = leb (a .view .0) newest && (ltb (a .keys) (2 ^ newest) && (keyRule a && entryFits (a .entry)))
+
+-- "view u8 (0 for 1 and 2)", else 1 to newest
+abbrev pub tagRule : ℕ → ℕ → ℕ → Bool
+tagRule newest kind t = if (leb kind WRITE) (eqb t 0) (within 1 newest t)
+
+-- a client's record by its phase
+abbrev pub kindRule : ℕ → Bool
+kindRule kind = within WRITES READS kind
+
+abbrev pub idleRule : Client → Bool
+idleRule a = leb (a .kind) READS && (not (eqb (a .kind) NONE) || same (a .entry) empty)
+
+abbrev pub askingRule : Client → Bool
+askingRule a = eqb (countOf (a .entry)) 0 && (eqb (writerOf (a .entry)) 0 && (eqb (a .kind) WRITES || eqb (a .entry .value) 0))
+
+-- the last view that is not zero
+unfoldable pub lastOf : Administrator → ℕ
+lastOf a = a .newest .0 + bit (isEnding (a .ending))
+
+-- ---- the tests of an image
+
+unfoldable pub headerOk : List ℕ → Bool
+headerOk i = headerPlain (part i 0 headerWidth) && headerFits (decode i)
+
+unfoldable pub viewOk : List ℕ → ℕ → Bool
+viewOk i t = viewPlainAt i t && viewFits (decode i) t
+
+unfoldable pub serverOk : List ℕ → ℕ → Bool
+serverOk i s = serverPlainAt i s && serverFits (decode i) s
+
+unfoldable pub clientOk : List ℕ → ℕ → Bool
+clientOk i c = clientPlainAt i c && clientFits (decode i) c
+
+-- "message 0 all zero"
+unfoldable pub firstOk : List ℕ → Bool
+firstOk i = messagePlainAt i 0 && zeroMessage (message (decode i) 0)
+
+unfoldable pub messageOk : List ℕ → ℕ → Bool
+messageOk i n = messagePlainAt i n && messageFits (decode i) n
+
+unfoldable pub messagesOk : List ℕ → Bool
+messagesOk i = firstOk i && allTo (messageOk i) messages
+
+unfoldable pub scanned : List ℕ → Bool
+scanned i =
+    headerOk i
+    && (allTo (viewOk i) views
+    && (allTo (serverOk i) servers && (allTo (clientOk i) clients && (messagesOk i && chainsFit (decode i)))))
+
+-- an image of the right length with a header that fits
+pub record Open (i : List ℕ) : Type 0 where
+  pub size : length i ≡ imageSize
+  pub head : Headed (decode i)
+
+pub open-header : (i : List ℕ) → length i ≡ imageSize → headerOk i ≡ true → Open i
+unfolding headerOk
+open-header i s e =
+    record { size = s; head = headed (decode i) (both (headerPlain (part i 0 headerWidth)) (headerFits (decode i)) e .1) }
+
+-- a message that was sent has a record
+pub present-used : (i : List ℕ) (n : ℕ) → present (decode i) n ≡ true → usedAt i ≤ messages → n ≤ messages
+unfolding decode
+present-used i n e h = let p = present-in (decode i) n e in omega arith
+
+pub sent-used : (i : List ℕ) (n kind sender : ℕ) → isSent (decode i) n kind sender ≡ true → usedAt i ≤ messages → n ≤ messages
+unfolding isSent
+sent-used i n kind sender e h =
+    present-used i n (both (present (decode i) n) (eqb (message (decode i) n .kind) kind && eqb (message (decode i) n .sender) sender) e .0) h
+
+pub taken-used : (i : List ℕ) (r n : ℕ) → takenAnswer (decode i) r n ≡ true → usedAt i ≤ messages → n ≤ messages
+taken-used i r n e h = present-used i n (taken-parts (decode i) r n e .present) h
+
+pub open-used : (i : List ℕ) → Open i → usedAt i ≤ messages
+unfolding decode
+open-used i o = o .head .used
+
+pub open-high : (i : List ℕ) → Open i → administratorAt i .newest .0 ≤ views
+unfolding decode
+open-high i o = o .head .high
+
+-- ---- a record's clause is that of the record in the image
+
+pub view-rule : (i : List ℕ) (t : ℕ) → 1 ≤ t → t ≤ views → viewFits (decode i) t ≡ viewRule (lastOf (administratorAt i)) t (viewAt i t)
+unfolding viewFits viewRule lastView lastOf decode
+view-rule i t a b = rw (view-decode i t a b)
+
+pub server-rule : (i : List ℕ) (s : ℕ) → 1 ≤ s → s ≤ servers → serverFits (decode i) s ≡ serverRule (administratorAt i .newest .0) (serverAt i s)
+unfolding serverFits serverRule keyRule decode
+server-rule i s a b = rw (server-decode i s a b)
+
+-- the header's clauses by the records that were read
+pub header-rule : (i : List ℕ) (used : ℕ) (a : Administrator) → used ≡ usedAt i → a ≡ administratorAt i
+    → headerFits (decode i) ≡ leb used messages && (within 1 views (a .newest .0) && endingFits (decode i) (a .ending))
+unfolding headerFits decode
+header-rule i used a e f = rw (e, f)
+
+pub end-rule : (i : List ℕ) (a : Administrator) (n : MessageNumber) → a ≡ administratorAt i
+    → endingFits (decode i) (EndSent n)
+    ≡ ltb (a .newest .0) views && (isSent (decode i) (n .0) END 0 && eqb (message (decode i) (n .0) .view .0) (a .newest .0))
+unfolding decode
+end-rule i a n f = rw f
+
+pub tag-rule : (i : List ℕ) (newest kind t : ℕ) → newest ≡ administratorAt i .newest .0 → tagRule newest kind t ≡ viewTagFits (decode i) kind t
+unfolding decode
+tag-rule i newest kind t e = rw e
+
+pub beyond-rule : (i : List ℕ) (used n : ℕ) → used ≡ usedAt i → n ≤ messages
+    → messageFits (decode i) n ≡ if (leb n used) (sentFits (decode i) (messageAt i n)) (zeroMessage (messageAt i n))
+unfolding messageFits
+beyond-rule i used n e b = rw (message-decode i n b, e ∙ sym (used-decode i))
+
+pub client-rule : (i : List ℕ) (c : ℕ) → 1 ≤ c → c ≤ clients
+    → clientFits (decode i) c ≡ entryFits (clientAt i c .entry) && phaseFits (decode i) c (clientAt i c) (clientAt i c .phase)
+unfolding clientFits
+client-rule i c a b = rw (client-decode i c a b)
+
+pub chains-rule : (i : List ℕ) (used : ℕ) → used ≡ usedAt i
+    → chainsFit (decode i) ≡ allTo (chainSound (decode i)) used && eqb (sumTo (links (decode i)) used) (countTo (isTaken (decode i)) used)
+unfolding chainsFit
+chains-rule i used e = rw (e ∙ sym (used-decode i))
+
+-- ---- both tests of an image are one
+
+both-all : (p q : ℕ → Bool) (n : ℕ) → ((k : ℕ) → 1 ≤ k → k ≤ n → p k ≡ true) → allTo q n ≡ true → allTo (λ k. p k && q k) n ≡ true
+both-all p q n f e = all-of (λ k. p k && q k) n (λ k a b. join (f k a b) (all-at q n k e a b))
+
+left-all : (p q : ℕ → Bool) (n : ℕ) → allTo (λ k. p k && q k) n ≡ true → (k : ℕ) → 1 ≤ k → k ≤ n → p k ≡ true
+left-all p q n e k a b = both (p k) (q k) (all-at (λ j. p j && q j) n k e a b) .0
+
+right-all : (p q : ℕ → Bool) (n : ℕ) → allTo (λ k. p k && q k) n ≡ true → allTo q n ≡ true
+right-all p q n e = all-of q n (λ k a b. both (p k) (q k) (all-at (λ j. p j && q j) n k e a b) .1)
+
+from-zero : (p : ℕ → Bool) (n : ℕ) → p 0 ≡ true → ((k : ℕ) → 1 ≤ k → k ≤ n → p k ≡ true) → (k : ℕ) → k ≤ n → p k ≡ true
+from-zero p n z f zero b = z
+from-zero p n z f (suc k) b = f (suc k) (omega arith) b
+
+module _ (i : List ℕ) (size : length i ≡ imageSize) (bytes : Bytes i) where
+  messages-used : Formed (decode i) → Each (decode i .used) (λ k. messageFits (decode i) k ≡ true)
+  messages-used f =
+      record { one = λ k a b. let u = headed (decode i) (f .header) .used in all-at (messageFits (decode i)) messages k (f .message) a (omega arith) }
+
+  read-scan : Read i → scanned i ≡ true
+  unfolding scanned headerOk viewOk serverOk clientOk messagesOk firstOk messageOk
+  read-scan r =
+      let p = plain-image i (r .image) in
+      let f = formed (decode i) (r .world) in
+      join (join (p .header) (f .header))
+      (join (both-all (viewPlainAt i) (viewFits (decode i)) views (p .view) (f .view))
+      (join (both-all (serverPlainAt i) (serverFits (decode i)) servers (p .server) (f .server))
+      (join (both-all (clientPlainAt i) (clientFits (decode i)) clients (p .client) (f .client))
+      (join
+      (join (join (p .message 0 (omega arith)) (f .first))
+      (both-all (messagePlainAt i) (messageFits (decode i)) messages (λ k a b. p .message k b) (f .message)))
+      (sym (chains-fit (decode i) (messages-used f)) ∙ f .chain)))))
+
+  scan-read : scanned i ≡ true → Read i
+  unfolding scanned headerOk viewOk serverOk clientOk messagesOk firstOk messageOk
+  scan-read e =
+      let a = both (headerOk i) (allTo (viewOk i) views && (allTo (serverOk i) servers && (allTo (clientOk i) clients && (messagesOk i && chainsFit (decode i))))) e in
+      let b = both (allTo (viewOk i) views) (allTo (serverOk i) servers && (allTo (clientOk i) clients && (messagesOk i && chainsFit (decode i)))) (a .1) in
+      let c = both (allTo (serverOk i) servers) (allTo (clientOk i) clients && (messagesOk i && chainsFit (decode i))) (b .1) in
+      let d = both (allTo (clientOk i) clients) (messagesOk i && chainsFit (decode i)) (c .1) in
+      let f = both (messagesOk i) (chainsFit (decode i)) (d .1) in
+      let g = both (firstOk i) (allTo (messageOk i) messages) (f .0) in
+      let h = both (headerPlain (part i 0 headerWidth)) (headerFits (decode i)) (a .0) in
+      let z = both (messagePlainAt i 0) (zeroMessage (message (decode i) 0)) (g .0) in
+      let m = right-all (messagePlainAt i) (messageFits (decode i)) messages (g .1) in
+      let u = headed (decode i) (h .1) .used in
+      let each : Each (decode i .used) (λ k. messageFits (decode i) k ≡ true) = record { one = λ k x y. all-at (messageFits (decode i)) messages k m x (omega arith) } in
+      let plain : Plain i = record {
+        header = h .0;
+        view = left-all (viewPlainAt i) (viewFits (decode i)) views (b .0);
+        server = left-all (serverPlainAt i) (serverFits (decode i)) servers (c .0);
+        client = left-all (clientPlainAt i) (clientFits (decode i)) clients (d .0);
+        message = λ n y. from-zero (messagePlainAt i) messages (z .0) (left-all (messagePlainAt i) (messageFits (decode i)) messages (g .1)) n y;
+      } in
+      record {
+        size = size;
+        image = encode-decode i size bytes plain;
+        world = well-formed (decode i)
+            (record {
+              full = decode-full i;
+              header = h .1;
+              view = right-all (viewPlainAt i) (viewFits (decode i)) views (b .0);
+              server = right-all (serverPlainAt i) (serverFits (decode i)) servers (c .0);
+              client = right-all (clientPlainAt i) (clientFits (decode i)) clients (d .0);
+              first = z .1;
+              message = m;
+              chain = chains-fit (decode i) each ∙ f .1;
+            });
+      }
+
+  -- the definition and the scan agree on every byte string of the right length
+  pub readable-scan : readable i ≡ scanned i
+  readable-scan = as-one (readable i) (scanned i) (λ e. read-scan (read i e)) (λ e. read-back i (scan-read e))
+
+-- and no other length is readable
+pub readable-size : (i : List ℕ) → (length i ≡ imageSize → ⊥) → readable i ≡ false
+unfolding readable
+readable-size i n = rw (ne-eqb (length i) imageSize n)
+
+-- a readable image has a header that fits
+pub readable-open : (i : List ℕ) → readable i ≡ true → Open i
+readable-open i e = let r = read i e in record { size = r .size; head = headed (decode i) (formed (decode i) (r .world) .header) }

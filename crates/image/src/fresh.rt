@@ -1,0 +1,99 @@
+// The fresh world.
+ghost use mathlib.Core.Path.{_≡_};
+ghost use Prim.Native.Nat.{_≤_};
+ghost use lib.ListN.{length};
+ghost use Rattle.protocol.specs.Worlds.{freshServer, freshWorld};
+ghost use Rattle.codec.specs.Layout.{imageSize};
+ghost use Rattle.codec.specs.Images.{encode};
+ghost use Rattle.image.specs.Fresh.{idleServer, seeded, freshOn};
+use super::bits::holds;
+use super::bits::sized;
+use codec::bytes::clear;
+use codec::bytes::put_bytes;
+use codec::image::store_administrator;
+use codec::image::store_server;
+use codec::image::store_view;
+use codec::layout::IMAGE;
+use codec::layout::SERVERS;
+use protocol::Administrator;
+use protocol::Ending;
+use protocol::Entry;
+use protocol::Server;
+use protocol::ServerNumber;
+use protocol::Stamp;
+use protocol::StampCount;
+use protocol::View;
+use protocol::ViewNumber;
+
+fn server_of(view: u8, keys: u32) -> Server
+    ensures { λ r. ⌜ r ≡ idleServer view keys ⌝ }
+{
+    Server {
+        view: ViewNumber(view),
+        faulty: false,
+        keys: keys,
+        entry: Entry {
+            stamp: Stamp {
+                count: StampCount(0),
+                writer: 0,
+            },
+            value: 0,
+        },
+    }
+}
+
+// "Members hold view 1, key 1 and the empty entry"
+fn fresh_server(members: u32, s: u8) -> Server
+    requires { ⌜ (1 ≤ s) × (s ≤ 32) ⌝ }
+    ensures { λ r. ⌜ r ≡ freshServer members s ⌝ }
+{
+    if holds(members, s) {
+        return server_of(1, 1);
+    }
+    server_of(0, 0)
+}
+
+fn store_servers(image: &mut [u8], members: u32)
+    requires { ⌜ length (now image) ≡ imageSize ⌝ }
+    ensures { λ _. ⌜ now (image .exit) ≡ seeded (now (image .entry)) members 32 ⌝ }
+{
+    for k in 0..SERVERS {
+        let v = fresh_server(members, k + 1);
+        store_server(image, ServerNumber(k + 1), v);
+    }
+}
+
+// "all else is zero but version and newest view 1"
+fn store_fresh(image: &mut [u8], v: View)
+    requires { ⌜ length (now image) ≡ imageSize ⌝ }
+    ensures { λ _. ⌜ now (image .exit) ≡ encode (freshWorld v) ⌝ }
+{
+    let version = [1u8, 0u8];
+    let a = Administrator {
+        newest: ViewNumber(1),
+        ending: Ending::Settled,
+    };
+    clear(image);
+    put_bytes(image, 0, &version);
+    store_administrator(image, a);
+    store_view(image, ViewNumber(1), v);
+    store_servers(image, v.members);
+}
+
+// "Fresh world (member bits, f): 1, buffer not 21,648 bytes; 8, size rule broken."
+pub fn fresh(image: &mut [u8], members: u32, f: u8) -> u8
+    ensures { λ r. ⌜ (r ≡ freshOn (now (image .entry)) members f .refusal) × (now (image .exit) ≡ freshOn (now (image .entry)) members f .image) ⌝ }
+{
+    if image.len() != IMAGE {
+        return 1;
+    }
+    let v = View {
+        members: members,
+        f: f,
+    };
+    if !sized(v) {
+        return 8;
+    }
+    store_fresh(image, v);
+    0
+}

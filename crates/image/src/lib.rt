@@ -1,0 +1,9 @@
+// The image of a world: whether it is readable, the fresh world, and the premise.
+pub mod bits;
+pub mod chain;
+pub mod fresh;
+mod plain;
+pub mod premise;
+pub mod readable;
+mod records;
+mod sent;

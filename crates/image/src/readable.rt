@@ -1,0 +1,211 @@
+// Whether an image is readable.
+ghost use mathlib.Core.Path.{_≡_};
+ghost use Prim.Native.Nat.{_≤_};
+ghost use lib.ListN.{length};
+ghost use Rattle.protocol.specs.Tools.{allTo};
+ghost use Rattle.protocol.specs.Sizes.{clients, servers, views, messages};
+ghost use Rattle.codec.specs.Layout.{imageSize};
+ghost use Rattle.codec.specs.Places.{usedAt, administratorAt};
+ghost use Rattle.image.specs.Scan.{Open, lastOf, headerOk, viewOk, serverOk, clientOk, firstOk, messageOk, messagesOk};
+ghost use Rattle.image.specs.Readable.{readable as isReadable};
+use super::chain::chains_fit;
+use super::plain::client_plain;
+use super::plain::header_plain;
+use super::plain::message_plain;
+use super::plain::server_plain;
+use super::plain::view_plain;
+use super::records::server_fits;
+use super::records::view_fits;
+use super::records::zero_message;
+use super::sent::client_fits;
+use super::sent::header_fits;
+use super::sent::message_fits;
+use codec::image::load_administrator;
+use codec::image::load_message;
+use codec::image::load_server;
+use codec::image::load_used;
+use codec::image::load_view;
+use codec::layout::CLIENT;
+use codec::layout::CLIENTS;
+use codec::layout::CLIENTS_AT;
+use codec::layout::HEADER;
+use codec::layout::IMAGE;
+use codec::layout::MESSAGE;
+use codec::layout::MESSAGES;
+use codec::layout::MESSAGES_AT;
+use codec::layout::SERVER;
+use codec::layout::SERVERS;
+use codec::layout::SERVERS_AT;
+use codec::layout::VIEW;
+use codec::layout::VIEWS;
+use codec::layout::VIEWS_AT;
+use protocol::Administrator;
+use protocol::Ending;
+use protocol::MessageNumber;
+use protocol::ServerNumber;
+use protocol::ViewNumber;
+
+fn header_ok(image: &[u8]) -> bool
+    requires { ⌜ length (now image) ≡ imageSize ⌝ }
+    ensures { λ r. ⌜ r ≡ headerOk (now (image .entry)) ⌝ }
+{
+    if !header_plain(&image[0..HEADER]) {
+        return false;
+    }
+    header_fits(image)
+}
+
+fn view_ok(image: &[u8], t: ViewNumber, last: u8) -> bool
+    requires { ⌜ (length (now image) ≡ imageSize) × (1 ≤ t .0) × (t .0 ≤ views) × (last ≡ lastOf (administratorAt (now image))) ⌝ }
+    ensures { λ r. ⌜ r ≡ viewOk (now (image .entry)) (t .0) ⌝ }
+{
+    let n = t.0;
+    let at = VIEWS_AT + VIEW * (n as usize - 1);
+    if !view_plain(&image[at..at + VIEW]) {
+        return false;
+    }
+    let v = load_view(image, t);
+    view_fits(v, t, last)
+}
+
+// The last view that is not zero.
+fn last_of(a: Administrator) -> u8
+    requires { ⌜ a .newest .0 ≤ views ⌝ }
+    ensures { λ r. ⌜ r ≡ lastOf a ⌝ }
+{
+    let newest = a.newest;
+    let ending = a.ending;
+    match ending {
+        Ending::Settled => newest.0,
+        Ending::EndSent(_) => newest.0 + 1,
+    }
+}
+
+fn views_ok(image: &[u8], a: Administrator) -> bool
+    requires { ⌜ Open (now image) × (a ≡ administratorAt (now image)) ⌝ }
+    ensures { λ r. ⌜ r ≡ allTo (viewOk (now (image .entry))) views ⌝ }
+{
+    let last = last_of(a);
+    for k in 0..VIEWS {
+        if !view_ok(image, ViewNumber(k + 1), last) {
+            return false;
+        }
+    }
+    true
+}
+
+fn server_ok(image: &[u8], s: ServerNumber, newest: u8) -> bool
+    requires { ⌜ Open (now image) × (1 ≤ s .0) × (s .0 ≤ servers) × (newest ≡ administratorAt (now image) .newest .0) ⌝ }
+    ensures { λ r. ⌜ r ≡ serverOk (now (image .entry)) (s .0) ⌝ }
+{
+    let n = s.0;
+    let at = SERVERS_AT + SERVER * (n as usize - 1);
+    if !server_plain(&image[at..at + SERVER]) {
+        return false;
+    }
+    let v = load_server(image, s);
+    server_fits(v, newest)
+}
+
+fn servers_ok(image: &[u8], newest: u8) -> bool
+    requires { ⌜ Open (now image) × (newest ≡ administratorAt (now image) .newest .0) ⌝ }
+    ensures { λ r. ⌜ r ≡ allTo (serverOk (now (image .entry))) servers ⌝ }
+{
+    for k in 0..SERVERS {
+        if !server_ok(image, ServerNumber(k + 1), newest) {
+            return false;
+        }
+    }
+    true
+}
+
+fn client_ok(image: &[u8], c: u8) -> bool
+    requires { ⌜ Open (now image) × (1 ≤ c) × (c ≤ clients) ⌝ }
+    ensures { λ r. ⌜ r ≡ clientOk (now (image .entry)) c ⌝ }
+{
+    let at = CLIENTS_AT + CLIENT * (c as usize - 1);
+    if !client_plain(&image[at..at + CLIENT]) {
+        return false;
+    }
+    client_fits(image, c)
+}
+
+fn clients_ok(image: &[u8]) -> bool
+    requires { ⌜ Open (now image) ⌝ }
+    ensures { λ r. ⌜ r ≡ allTo (clientOk (now (image .entry))) clients ⌝ }
+{
+    for k in 0..CLIENTS {
+        if !client_ok(image, k + 1) {
+            return false;
+        }
+    }
+    true
+}
+
+// "message 0 all zero"
+fn first_ok(image: &[u8]) -> bool
+    requires { ⌜ Open (now image) ⌝ }
+    ensures { λ r. ⌜ r ≡ firstOk (now (image .entry)) ⌝ }
+{
+    if !message_plain(&image[MESSAGES_AT..MESSAGES_AT + MESSAGE]) {
+        return false;
+    }
+    let m = load_message(image, MessageNumber(0));
+    zero_message(m)
+}
+
+fn message_ok(image: &[u8], n: MessageNumber, used: u16, newest: u8) -> bool
+    requires { ⌜ Open (now image) × (n .0 ≤ messages) × (used ≡ usedAt (now image)) × (newest ≡ administratorAt (now image) .newest .0) ⌝ }
+    ensures { λ r. ⌜ r ≡ messageOk (now (image .entry)) (n .0) ⌝ }
+{
+    let k = n.0;
+    let at = MESSAGES_AT + MESSAGE * (k as usize);
+    if !message_plain(&image[at..at + MESSAGE]) {
+        return false;
+    }
+    message_fits(image, n, used, newest)
+}
+
+fn messages_ok(image: &[u8], newest: u8) -> bool
+    requires { ⌜ Open (now image) × (newest ≡ administratorAt (now image) .newest .0) ⌝ }
+    ensures { λ r. ⌜ r ≡ messagesOk (now (image .entry)) ⌝ }
+{
+    if !first_ok(image) {
+        return false;
+    }
+    let used = load_used(image);
+    for k in 0..MESSAGES {
+        if !message_ok(image, MessageNumber(k + 1), used, newest) {
+            return false;
+        }
+    }
+    true
+}
+
+// "An image is readable if ...": for every byte string of every length.
+pub fn readable(image: &[u8]) -> bool
+    ensures { λ r. ⌜ r ≡ isReadable (now (image .entry)) ⌝ }
+{
+    if image.len() != IMAGE {
+        return false;
+    }
+    if !header_ok(image) {
+        return false;
+    }
+    let a = load_administrator(image);
+    let newest = a.newest;
+    let t = newest.0;
+    if !views_ok(image, a) {
+        return false;
+    }
+    if !servers_ok(image, t) {
+        return false;
+    }
+    if !clients_ok(image) {
+        return false;
+    }
+    if !messages_ok(image, t) {
+        return false;
+    }
+    chains_fit(image)
+}

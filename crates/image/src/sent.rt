@@ -1,0 +1,275 @@
+// The clauses of "readable" that name messages.
+ghost use mathlib.Core.Path.{_≡_};
+ghost use Prim.Native.Nat.{_≤_};
+ghost use lib.ListN.{length};
+ghost use Rattle.protocol.specs.Sizes.{clients, messages};
+ghost use Rattle.protocol.specs.Worlds.{present as presentIn};
+ghost use Rattle.protocol.specs.Readable.{isSent, endingFits, headerFits, phaseFits, clientFits, requestFits, sentFits, messageFits};
+ghost use Rattle.codec.specs.Layout.{imageSize};
+ghost use Rattle.codec.specs.Places.{usedAt, administratorAt};
+ghost use Rattle.codec.specs.Images.{decode};
+ghost use Rattle.image.specs.Scan.{Open, idleRule, askingRule, kindRule};
+use super::records::entry_fits;
+use super::records::entry_zero;
+use super::records::is_empty;
+use super::records::next_fits;
+use super::records::same;
+use super::records::sender_fits;
+use super::records::tag_fits;
+use super::records::zero_message;
+use codec::image::load_administrator;
+use codec::image::load_client;
+use codec::image::load_message;
+use codec::image::load_used;
+use codec::layout::ANSWER;
+use codec::layout::END;
+use codec::layout::MESSAGES;
+use codec::layout::NONE;
+use codec::layout::READ;
+use codec::layout::READS;
+use codec::layout::VIEWS;
+use codec::layout::WRITE;
+use codec::layout::WRITES;
+use protocol::Administrator;
+use protocol::Client;
+use protocol::Ending;
+use protocol::Message;
+use protocol::MessageNumber;
+use protocol::Phase;
+
+// A message of that number was sent.
+pub fn present(image: &[u8], n: MessageNumber) -> bool
+    requires { ⌜ length (now image) ≡ imageSize ⌝ }
+    ensures { λ r. ⌜ r ≡ presentIn (decode (now (image .entry))) (n .0) ⌝ }
+{
+    let used = load_used(image);
+    let k = n.0;
+    if k < 1 {
+        return false;
+    }
+    k <= used
+}
+
+// Message n was sent, and is of that kind and sender.
+pub fn is_sent(image: &[u8], n: MessageNumber, kind: u8, sender: u8) -> bool
+    requires { ⌜ (length (now image) ≡ imageSize) × (usedAt (now image) ≤ messages) ⌝ }
+    ensures { λ r. ⌜ r ≡ isSent (decode (now (image .entry))) (n .0) kind sender ⌝ }
+{
+    if !present(image, n) {
+        return false;
+    }
+    let m = load_message(image, n);
+    if m.kind != kind {
+        return false;
+    }
+    m.sender == sender
+}
+
+// "while ending, newest is below 32 and the END is that of newest"
+fn end_fits(image: &[u8], a: Administrator, n: MessageNumber) -> bool
+    requires { ⌜ (length (now image) ≡ imageSize) × (usedAt (now image) ≤ messages) × (a ≡ administratorAt (now image)) ⌝ }
+    ensures { λ r. ⌜ r ≡ endingFits (decode (now (image .entry))) (Ending.EndSent n) ⌝ }
+{
+    let newest = a.newest;
+    if VIEWS <= newest.0 {
+        return false;
+    }
+    if !is_sent(image, n, END, 0) {
+        return false;
+    }
+    let m = load_message(image, n);
+    let view = m.view;
+    view.0 == newest.0
+}
+
+fn ending_fits(image: &[u8], a: Administrator) -> bool
+    requires { ⌜ (length (now image) ≡ imageSize) × (usedAt (now image) ≤ messages) × (a ≡ administratorAt (now image)) ⌝ }
+    ensures { λ r. ⌜ r ≡ endingFits (decode (now (image .entry))) (a .ending) ⌝ }
+{
+    let ending = a.ending;
+    match ending {
+        Ending::Settled => true,
+        Ending::EndSent(n) => end_fits(image, a, n),
+    }
+}
+
+pub fn header_fits(image: &[u8]) -> bool
+    requires { ⌜ length (now image) ≡ imageSize ⌝ }
+    ensures { λ r. ⌜ r ≡ headerFits (decode (now (image .entry))) ⌝ }
+{
+    let used = load_used(image);
+    let a = load_administrator(image);
+    let newest = a.newest;
+    if MESSAGES < used {
+        return false;
+    }
+    if newest.0 < 1 {
+        return false;
+    }
+    if VIEWS < newest.0 {
+        return false;
+    }
+    ending_fits(image, a)
+}
+
+// "an answer's request has kind 1 to 3"; "taken u8 (0 or 1) and request u16 (both 0 but in answers)"
+fn request_fits(image: &[u8], m: Message) -> bool
+    requires { ⌜ Open (now image) ⌝ }
+    ensures { λ r. ⌜ r ≡ requestFits (decode (now (image .entry))) m ⌝ }
+{
+    let request = m.request;
+    if m.kind == ANSWER {
+        if !present(image, request) {
+            return false;
+        }
+        let asked = load_message(image, request);
+        if asked.kind < READ {
+            return false;
+        }
+        return asked.kind <= END;
+    }
+    if m.taken {
+        return false;
+    }
+    request.0 == 0
+}
+
+// A message that was sent.
+fn sent_fits(image: &[u8], m: Message, newest: u8) -> bool
+    requires { ⌜ Open (now image) × (newest ≡ administratorAt (now image) .newest .0) ⌝ }
+    ensures { λ r. ⌜ r ≡ sentFits (decode (now (image .entry))) m ⌝ }
+{
+    let view = m.view;
+    let entry = m.entry;
+    if m.kind < READ {
+        return false;
+    }
+    if ANSWER < m.kind {
+        return false;
+    }
+    if !sender_fits(m.kind, m.sender) {
+        return false;
+    }
+    if !tag_fits(newest, m.kind, view) {
+        return false;
+    }
+    if !request_fits(image, m) {
+        return false;
+    }
+    if !next_fits(m) {
+        return false;
+    }
+    if !entry_zero(m) {
+        return false;
+    }
+    entry_fits(entry)
+}
+
+// "messages beyond used are zero"
+pub fn message_fits(image: &[u8], n: MessageNumber, used: u16, newest: u8) -> bool
+    requires { ⌜ Open (now image) × (n .0 ≤ messages) × (used ≡ usedAt (now image)) × (newest ≡ administratorAt (now image) .newest .0) ⌝ }
+    ensures { λ r. ⌜ r ≡ messageFits (decode (now (image .entry))) (n .0) ⌝ }
+{
+    let m = load_message(image, n);
+    if n.0 <= used {
+        return sent_fits(image, m, newest);
+    }
+    zero_message(m)
+}
+
+// "Kind 0 goes only with phase 0 and the empty entry."
+fn idle_fits(a: Client) -> bool
+    ensures { λ r. ⌜ r ≡ idleRule a ⌝ }
+{
+    let entry = a.entry;
+    if READS < a.kind {
+        return false;
+    }
+    if a.kind != NONE {
+        return true;
+    }
+    is_empty(entry)
+}
+
+// "in phase 1 of a write only its value is set, of a read it is zero"
+fn asking_fits(a: Client) -> bool
+    ensures { λ r. ⌜ r ≡ askingRule a ⌝ }
+{
+    let entry = a.entry;
+    let stamp = entry.stamp;
+    let count = stamp.count;
+    if count.0 != 0 {
+        return false;
+    }
+    if stamp.writer != 0 {
+        return false;
+    }
+    if a.kind == WRITES {
+        return true;
+    }
+    entry.value == 0
+}
+
+// An open phase is that of a write or a read.
+fn kind_fits(kind: u8) -> bool
+    ensures { λ r. ⌜ r ≡ kindRule kind ⌝ }
+{
+    if kind < WRITES {
+        return false;
+    }
+    kind <= READS
+}
+
+fn reading_fits(image: &[u8], c: u8, a: Client, n: MessageNumber) -> bool
+    requires { ⌜ Open (now image) ⌝ }
+    ensures { λ r. ⌜ r ≡ phaseFits (decode (now (image .entry))) c a (Phase.Reading n) ⌝ }
+{
+    if !kind_fits(a.kind) {
+        return false;
+    }
+    if !is_sent(image, n, READ, c) {
+        return false;
+    }
+    asking_fits(a)
+}
+
+// "in phase 2 it is what is written"
+fn writing_fits(image: &[u8], c: u8, a: Client, n: MessageNumber) -> bool
+    requires { ⌜ Open (now image) ⌝ }
+    ensures { λ r. ⌜ r ≡ phaseFits (decode (now (image .entry))) c a (Phase.Writing n) ⌝ }
+{
+    let own = a.entry;
+    if !kind_fits(a.kind) {
+        return false;
+    }
+    if !is_sent(image, n, WRITE, c) {
+        return false;
+    }
+    let m = load_message(image, n);
+    let written = m.entry;
+    same(own, written)
+}
+
+fn phase_fits(image: &[u8], c: u8, a: Client) -> bool
+    requires { ⌜ Open (now image) ⌝ }
+    ensures { λ r. ⌜ r ≡ phaseFits (decode (now (image .entry))) c a (a .phase) ⌝ }
+{
+    let phase = a.phase;
+    match phase {
+        Phase::Idle => idle_fits(a),
+        Phase::Reading(n) => reading_fits(image, c, a, n),
+        Phase::Writing(n) => writing_fits(image, c, a, n),
+    }
+}
+
+pub fn client_fits(image: &[u8], c: u8) -> bool
+    requires { ⌜ Open (now image) × (1 ≤ c) × (c ≤ clients) ⌝ }
+    ensures { λ r. ⌜ r ≡ clientFits (decode (now (image .entry))) c ⌝ }
+{
+    let a = load_client(image, c);
+    let entry = a.entry;
+    if !entry_fits(entry) {
+        return false;
+    }
+    phase_fits(image, c, a)
+}
