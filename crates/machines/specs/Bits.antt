@@ -1,5 +1,5 @@
 -- Sets of the numbers 1 to 32 as bits, and their laws. Assumes nothing.
-use Prim.Native.Nat.{ℕ, zero, suc, _+_, _-_, _*_, _/_, _%_, _^_, _≤_, _<_, zero-le, max}
+use Prim.Native.Nat.{ℕ, zero, suc, _+_, _-_, _*_, _/_, _%_, _^_, _≤_, _<_, zero-le}
 use mathlib.Core.Bool.{Bool, true, false, _||_}
 use mathlib.Core.Path.{_≡_, refl, sym, ap, ap₂, _∙_}
 use native.Mathlib.Nat.{add-comm, one-mul, mod-lt, mod-one, mod-eq-of-lt, div-eq-of-lt, zero-div}
@@ -7,7 +7,7 @@ use mathlib.Core.Logic.{_⊎_, inl, inr, ⊎-elim}
 use native.Mathlib.Omega.{arith}
 use lib.Dec.{leb, eqb, lit<, eqb·zero-suc, eqb·suc-suc}
 use lib.Bits.{bitOr, or-shr, or-mod, shifted-even}
-use lib.Count.{ones, ones-cat, ones-le}
+use lib.Count.{ones, ones-cat}
 use lib.Pow.{pow-pos, pow-mono, pow-lt, pow-add, shl-shr, mod-pow-add}
 use borrow.Author.Tests.{eq-eqb, ne-eqb, le-leb, lt-leb}
 use Rattle.protocol.specs.Tools.{if, bit, countTo, holds, bitOf}

@@ -1,13 +1,13 @@
 -- The parts of a client's and the administrator's rule. Assumes nothing.
 use Prim.Native.Nat.{ℕ, _<_}
 use mathlib.Core.Bool.{true, false}
-use mathlib.Core.Path.{_≡_, refl}
+use mathlib.Core.Path.{_≡_}
 use lib.Dec.{ltb}
 use borrow.Author.Tests.{lt-ltb}
 use Rattle.machines.specs.Types.{Entry, Idle, Writing, Client, Administrator}
 use Rattle.protocol.specs.Tools.{Result, done, guard}
 use Rattle.protocol.specs.Sizes.{views}
-use Rattle.protocol.specs.Clients.{number, toWrite, countLeft, Close, closeBy, advance}
+use Rattle.protocol.specs.Clients.{number, toWrite, countLeft, Close, advance}
 
 -- READ closes, with the WRITE number n next
 abbrev pub closeRead : Client → ℕ → Entry → ℕ → Result Close

@@ -1,16 +1,14 @@
 -- A session of single machines, computed on the definitions. View 1 has server 1 alone, view 2 servers 1 and 2. Assumes nothing.
 use Prim.Native.Nat.{ℕ}
-use mathlib.Core.Bool.{Bool, true, false}
-use mathlib.Core.Option.{Option, none, some}
+use mathlib.Core.Bool.{true, false}
+use mathlib.Core.Option.{none, some}
 use mathlib.Core.Path.{_≡_, refl}
-use lib.Bits.{bitOr}
-use Rattle.machines.specs.declared.tally.Tally.{Tally}
-use Rattle.machines.specs.Types.{Entry, View, Server, Phase, Idle, Reading, Writing, Client, Settled, EndSent, Administrator, Message}
+use Rattle.machines.specs.Types.{Entry, Server, Phase, Idle, Reading, Writing, Client, Settled, EndSent, Administrator, Message}
 use Rattle.protocol.specs.Tools.{countTo, holds, bitOf, Result, refused, done, guard}
 use Rattle.protocol.specs.Sizes.{quorum, size, sized, writeSize}
 use Rattle.protocol.specs.Entries.{entry, empty, below, larger, same, entryFits}
-use Rattle.protocol.specs.Servers.{READ, WRITE, END, START, ANSWER, Reply, keeping, withoutKey, joining, gathering, serve}
-use Rattle.protocol.specs.Clients.{NONE, WRITES, number, begin, toWrite, countLeft, Close, close, call, advance}
+use Rattle.protocol.specs.Servers.{READ, WRITE, END, START, ANSWER, Reply, keeping, withoutKey, joining, serve}
+use Rattle.protocol.specs.Clients.{NONE, WRITES, number, begin, toWrite, countLeft, close, call, advance}
 use Rattle.machines.specs.Bits.{bitIn}
 use Rattle.machines.specs.Tallies.{firstAnswer, closesAt}
 use Rattle.machines.specs.Ranges.{numberFits, serverInRange, senderTag, viewTag, requestTag, nextTag, entryTag, messageInRange, openKind, idleFits, readingFits, writingFits, clientInRange, endFits, administratorInRange}

@@ -1,6 +1,6 @@
 -- "One machine's rule: 3, record out of range; then as its step." Assumes nothing.
 use Prim.Native.Nat.{ℕ}
-use mathlib.Core.Bool.{Bool, true, false, not, _&&_}
+use mathlib.Core.Bool.{Bool, true, not, _&&_}
 use lib.Dec.{eqb}
 use Rattle.machines.specs.Types.{Entry, View, Server, Phase, Idle, Reading, Writing, Client, Administrator, Message}
 use Rattle.protocol.specs.Tools.{within, Result, done, guard}

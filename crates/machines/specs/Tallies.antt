@@ -1,16 +1,15 @@
 -- What a walk along taken answers gathers, and that it is what the answers say. Assumes nothing.
-use Prim.Native.Nat.{ℕ, zero, suc, _≤_, _<_, _+_, _/_, _%_, _^_}
+use Prim.Native.Nat.{ℕ, _≤_, _<_}
 use mathlib.Core.Bool.{Bool, true, false, _||_, _&&_, or-false}
 use mathlib.Core.Option.{Option, none, some}
 use mathlib.Core.Path.{_≡_, refl, sym, ap, ap₂, _∙_}
 use mathlib.Core.List.{List, [], _∷_}
-use native.Mathlib.Omega.{arith}
 use borrow.Author.Tests.{eq-eqb}
 use lib.Dec.{leb, eqb}
 use lib.Bits.{bitOr}
 use Rattle.machines.specs.declared.tally.Tally.{Tally}
 use Rattle.machines.specs.Types.{Entry, Message}
-use Rattle.protocol.specs.Tools.{if, countTo, any, holds, bitOf}
+use Rattle.protocol.specs.Tools.{if, countTo, any, holds}
 use Rattle.protocol.specs.Sizes.{servers}
 use Rattle.protocol.specs.Entries.{larger, largest, chosen}
 use Rattle.protocol.specs.Worlds.{World, message}

@@ -1,9 +1,4 @@
--- The declared records of the crate protocol and of this one, under one name. Assumes nothing.
-pub use Rattle.protocol.specs.declared.StampCount.{StampCount}
-pub use Rattle.protocol.specs.declared.ViewNumber.{ViewNumber}
-pub use Rattle.protocol.specs.declared.MessageNumber.{MessageNumber}
-pub use Rattle.protocol.specs.declared.ServerNumber.{ServerNumber}
-pub use Rattle.protocol.specs.declared.Stamp.{Stamp}
+-- The declared records of the crate protocol, under one name. Assumes nothing.
 pub use Rattle.protocol.specs.declared.Entry.{Entry}
 pub use Rattle.protocol.specs.declared.View.{View}
 pub use Rattle.protocol.specs.declared.Server.{Server}
@@ -14,15 +9,4 @@ pub use Rattle.protocol.specs.declared.Ending.{Ending}
 pub use Rattle.protocol.specs.declared.Ending.the-variants.{Settled, EndSent}
 pub use Rattle.protocol.specs.declared.Administrator.{Administrator}
 pub use Rattle.protocol.specs.declared.Message.{Message}
-pub use Rattle.protocol.specs.declared.Step.{Step}
 pub use Rattle.protocol.specs.declared.Shown.{Shown}
-pub use Rattle.protocol.specs.declared.Served.{Served}
-pub use Rattle.protocol.specs.declared.Served.the-variants.{ServeRefused, Kept, Answered}
-pub use Rattle.protocol.specs.declared.Begun.{Begun}
-pub use Rattle.protocol.specs.declared.Begun.the-variants.{BeginRefused, Began}
-pub use Rattle.protocol.specs.declared.Taken.{Taken}
-pub use Rattle.protocol.specs.declared.Taken.the-variants.{Open, Closed}
-pub use Rattle.protocol.specs.declared.Closing.{Closing}
-pub use Rattle.protocol.specs.declared.Closing.the-variants.{CloseRefused, WritesNext, Completed}
-pub use Rattle.protocol.specs.declared.Called.{Called}
-pub use Rattle.protocol.specs.declared.Called.the-variants.{CallRefused, Calling}

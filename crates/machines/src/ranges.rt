@@ -258,6 +258,7 @@ fn end_fits(newest: u8, n: MessageNumber) -> bool
     number_fits(n)
 }
 
+// The administrator's END, if it sent one.
 fn ending_in_range(newest: u8, e: Ending) -> bool
     ensures { λ r. ⌜ r ≡ endingInRange newest e ⌝ }
 {

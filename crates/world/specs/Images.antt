@@ -12,6 +12,7 @@ use Rattle.protocol.specs.Readable.{wellFormed}
 use Rattle.codec.specs.Layout.{imageSize}
 use Rattle.codec.specs.Places.{usedAt, putUsed, messageAt, putMessage}
 use Rattle.codec.specs.Images.{encode, decode}
+pub use Rattle.consistency.specs.Steps.{leftBy, answered}
 use Rattle.world.specs.declared.Stepped.{Stepped}
 use Rattle.world.specs.declared.Stepped.the-variants.{StepRefused, StepDone}
 
@@ -19,16 +20,6 @@ use Rattle.world.specs.declared.Stepped.the-variants.{StepRefused, StepD
 abbrev pub stepped : Stepped → Result ℕ
 stepped (StepRefused n) = refused n
 stepped (StepDone c) = done c
-
--- the same of a world's step
-abbrev pub answered : Result After → Result ℕ
-answered (refused n) = refused n
-answered (done a) = done (a .completed)
-
--- "A refusal changes no byte"; else the image of the world after it
-abbrev pub leftBy : List ℕ → Result After → List ℕ
-leftBy l (refused n) = l
-leftBy l (done a) = encode (a .world)
 
 -- the image l of a readable world
 pub record Legible (l : List ℕ) : Type 0 where

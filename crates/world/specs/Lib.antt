@@ -3,3 +3,7 @@ pub mod Stored
 pub mod Begins
 pub mod Delivers
 pub mod Checks
+pub mod Puts
+pub mod Views
+pub mod Takes
+pub mod Performs

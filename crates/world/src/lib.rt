@@ -3,6 +3,9 @@ pub mod clients;
 pub mod fields;
 pub mod mail;
 pub mod servers;
+pub mod step;
+pub mod take;
+pub mod views;
 
 // A step's answer: a refusal, or the client whose operation it completed, or 0.
 pub enum Stepped {

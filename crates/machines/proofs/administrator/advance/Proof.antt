@@ -1,7 +1,7 @@
 use borrow.Author.Needs.{needs}
 use borrow.Author.Tests.{lt-ltb, le-ltb}
 use Rattle.protocol.specs.Tools.{guard}
-use Rattle.protocol.specs.Clients.{close, advance}
+use Rattle.protocol.specs.Clients.{advance}
 use Rattle.machines.specs.Clients.{advanceIn}
 use Rattle.machines.proofs.administrator.advance.Statement.{statement}
 use Rattle.machines.proofs.administrator.advance.Tie as tie

@@ -2,8 +2,7 @@ use mathlib.Core.Path.{sym, _∙_}
 use borrow.Author.Needs.{needs}
 use borrow.Author.Tests.{lt-ltb, le-ltb, not-true, not-false}
 use Rattle.protocol.specs.Tools.{guard}
-use Rattle.protocol.specs.Sizes.{sized}
-use Rattle.protocol.specs.Clients.{close, call}
+use Rattle.protocol.specs.Clients.{call}
 use Rattle.machines.proofs.administrator.call.Statement.{statement}
 use Rattle.machines.proofs.administrator.call.Tie as tie
 

@@ -2,7 +2,7 @@ use mathlib.Core.Path.{sym, _∙_}
 use borrow.Author.Needs.{needs}
 use borrow.Author.Tests.{not-true, not-false}
 use Rattle.protocol.specs.Tools.{guard}
-use Rattle.protocol.specs.Clients.{begin, close}
+use Rattle.protocol.specs.Clients.{begin}
 use Rattle.machines.proofs.clients.begin.Statement.{statement}
 use Rattle.machines.proofs.clients.begin.Tie as tie
 

@@ -1,5 +1,4 @@
 use borrow.Author.Needs.{needs}
-use Rattle.protocol.specs.Clients.{close}
 use Rattle.machines.proofs.clients.close_size.Statement.{statement}
 use Rattle.machines.proofs.clients.close_size.Tie as tie
 

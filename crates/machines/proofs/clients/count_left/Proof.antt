@@ -1,5 +1,5 @@
 use borrow.Author.Tests.{eq-eqb, ne-eqb}
-use Rattle.protocol.specs.Clients.{countLeft, close}
+use Rattle.protocol.specs.Clients.{countLeft}
 use Rattle.machines.proofs.clients.count_left.Statement.{statement}
 use Rattle.machines.proofs.clients.count_left.Tie as tie
 

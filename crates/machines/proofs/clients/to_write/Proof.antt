@@ -4,7 +4,7 @@ use native.Mathlib.Omega.{arith}
 use lib.Dec.{ltb}
 use borrow.Author.Needs.{needs}
 use borrow.Author.Tests.{eq-eqb, ne-eqb, ltb-true}
-use Rattle.protocol.specs.Clients.{toWrite, countLeft, close}
+use Rattle.protocol.specs.Clients.{toWrite, countLeft}
 use Rattle.machines.proofs.clients.to_write.Statement.{statement}
 use Rattle.machines.proofs.clients.to_write.Tie as tie
 

@@ -3,7 +3,6 @@ use mathlib.Core.Bool.{and-true}
 use borrow.Author.Needs.{needs}
 use borrow.Author.Tests.{lt-ltb}
 use Rattle.protocol.specs.Entries.{entryFits}
-use Rattle.protocol.specs.Clients.{close}
 use Rattle.machines.proofs.entries.entry_fits.Statement.{statement}
 use Rattle.machines.proofs.entries.entry_fits.Tie as tie
 

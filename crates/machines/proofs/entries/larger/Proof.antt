@@ -1,7 +1,6 @@
 use native.Mathlib.Omega.{arith}
 use borrow.Author.Tests.{lt-ltb, le-ltb, eq-eqb, ne-eqb}
 use Rattle.protocol.specs.Entries.{larger, below}
-use Rattle.protocol.specs.Clients.{close}
 use Rattle.machines.proofs.entries.larger.Statement.{statement}
 use Rattle.machines.proofs.entries.larger.Tie as tie
 

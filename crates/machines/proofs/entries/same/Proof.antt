@@ -1,6 +1,5 @@
 use borrow.Author.Tests.{eq-eqb, ne-eqb}
 use Rattle.protocol.specs.Entries.{same}
-use Rattle.protocol.specs.Clients.{close}
 use Rattle.machines.proofs.entries.same.Statement.{statement}
 use Rattle.machines.proofs.entries.same.Tie as tie
 

@@ -1,6 +1,5 @@
 use borrow.Author.Needs.{needs}
 use borrow.Author.Tests.{le-leb, lt-leb}
-use Rattle.protocol.specs.Clients.{close}
 use Rattle.machines.specs.Ranges.{administratorInRange}
 use Rattle.machines.proofs.ranges.administrator_in_range.Statement.{statement}
 use Rattle.machines.proofs.ranges.administrator_in_range.Tie as tie

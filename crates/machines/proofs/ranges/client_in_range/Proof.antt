@@ -1,7 +1,6 @@
 use mathlib.Core.Path.{sym, _∙_}
 use borrow.Author.Needs.{needs}
 use borrow.Author.Tests.{not-true, not-false}
-use Rattle.protocol.specs.Clients.{close}
 use Rattle.machines.specs.Ranges.{clientInRange}
 use Rattle.machines.proofs.ranges.client_in_range.Statement.{statement}
 use Rattle.machines.proofs.ranges.client_in_range.Tie as tie

@@ -1,6 +1,4 @@
 use borrow.Author.Needs.{needs}
-use Rattle.protocol.specs.Entries.{same}
-use Rattle.protocol.specs.Clients.{close}
 use Rattle.machines.proofs.ranges.empty_entry.Statement.{statement}
 use Rattle.machines.proofs.ranges.empty_entry.Tie as tie
 

@@ -1,6 +1,5 @@
 use borrow.Author.Needs.{needs}
 use borrow.Author.Tests.{lt-ltb, le-ltb}
-use Rattle.protocol.specs.Clients.{close}
 use Rattle.machines.specs.Ranges.{endFits}
 use Rattle.machines.proofs.ranges.end_fits.Statement.{statement}
 use Rattle.machines.proofs.ranges.end_fits.Tie as tie

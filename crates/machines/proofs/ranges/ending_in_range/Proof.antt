@@ -1,5 +1,4 @@
 use borrow.Author.Needs.{needs}
-use Rattle.protocol.specs.Clients.{close}
 use Rattle.machines.proofs.ranges.ending_in_range.Statement.{statement}
 use Rattle.machines.proofs.ranges.ending_in_range.Tie as tie
 

@@ -1,6 +1,5 @@
 use borrow.Author.Needs.{needs}
 use borrow.Author.Tests.{eq-eqb, ne-eqb}
-use Rattle.protocol.specs.Clients.{close}
 use Rattle.machines.specs.Ranges.{entryTag}
 use Rattle.machines.proofs.ranges.entry_tag.Statement.{statement}
 use Rattle.machines.proofs.ranges.entry_tag.Tie as tie

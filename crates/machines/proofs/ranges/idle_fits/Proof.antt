@@ -1,6 +1,5 @@
 use borrow.Author.Needs.{needs}
 use borrow.Author.Tests.{le-leb, lt-leb, eq-eqb, ne-eqb}
-use Rattle.protocol.specs.Clients.{close}
 use Rattle.machines.specs.Ranges.{idleFits}
 use Rattle.machines.proofs.ranges.idle_fits.Statement.{statement}
 use Rattle.machines.proofs.ranges.idle_fits.Tie as tie

@@ -4,7 +4,6 @@ use lib.Dec.{leb}
 use borrow.Author.Needs.{needs}
 use borrow.Author.Tests.{le-leb, lt-leb, not-true, not-false}
 use Rattle.protocol.specs.Entries.{entryFits}
-use Rattle.protocol.specs.Clients.{close}
 use Rattle.machines.specs.Types.{Message}
 use Rattle.machines.specs.Ranges.{senderTag, viewTag, requestTag, nextTag, entryTag, messageInRange}
 use Rattle.machines.proofs.ranges.message_in_range.Statement.{statement}

@@ -1,6 +1,5 @@
 use mathlib.Core.Bool.{or-true}
 use borrow.Author.Tests.{le-leb, lt-leb}
-use Rattle.protocol.specs.Clients.{close}
 use Rattle.machines.specs.Ranges.{nextTag}
 use Rattle.machines.proofs.ranges.next_tag.Statement.{statement}
 use Rattle.machines.proofs.ranges.next_tag.Tie as tie

@@ -1,5 +1,4 @@
 use borrow.Author.Tests.{le-leb, lt-leb}
-use Rattle.protocol.specs.Clients.{close}
 use Rattle.machines.specs.Ranges.{numberFits}
 use Rattle.machines.proofs.ranges.number_fits.Statement.{statement}
 use Rattle.machines.proofs.ranges.number_fits.Tie as tie

@@ -1,5 +1,4 @@
 use borrow.Author.Tests.{le-leb, lt-leb}
-use Rattle.protocol.specs.Clients.{close}
 use Rattle.machines.specs.Ranges.{openKind}
 use Rattle.machines.proofs.ranges.open_kind.Statement.{statement}
 use Rattle.machines.proofs.ranges.open_kind.Tie as tie

@@ -1,7 +1,6 @@
 use mathlib.Core.Path.{sym, _∙_}
 use borrow.Author.Needs.{needs}
 use borrow.Author.Tests.{eq-eqb, ne-eqb, not-true, not-false}
-use Rattle.protocol.specs.Clients.{close}
 use Rattle.machines.specs.Ranges.{readingFits}
 use Rattle.machines.proofs.ranges.reading_fits.Statement.{statement}
 use Rattle.machines.proofs.ranges.reading_fits.Tie as tie

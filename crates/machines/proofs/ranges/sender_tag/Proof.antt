@@ -1,5 +1,4 @@
 use borrow.Author.Tests.{le-leb, lt-leb}
-use Rattle.protocol.specs.Clients.{close}
 use Rattle.machines.specs.Ranges.{senderTag}
 use Rattle.machines.proofs.ranges.sender_tag.Statement.{statement}
 use Rattle.machines.proofs.ranges.sender_tag.Tie as tie

@@ -5,7 +5,6 @@ use lib.Dec.{eqb}
 use borrow.Author.Needs.{needs}
 use borrow.Author.Tests.{le-leb, lt-leb, eq-eqb, ne-eqb, not-true, not-false}
 use Rattle.protocol.specs.Entries.{entryFits}
-use Rattle.protocol.specs.Clients.{close}
 use Rattle.machines.specs.Bits.{bitIn, bit-in}
 use Rattle.machines.specs.Types.{Server}
 use Rattle.machines.specs.Ranges.{serverInRange}

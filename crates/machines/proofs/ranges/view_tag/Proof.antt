@@ -1,5 +1,4 @@
 use borrow.Author.Tests.{le-leb, lt-leb}
-use Rattle.protocol.specs.Clients.{close}
 use Rattle.machines.specs.Ranges.{viewTag}
 use Rattle.machines.proofs.ranges.view_tag.Statement.{statement}
 use Rattle.machines.proofs.ranges.view_tag.Tie as tie

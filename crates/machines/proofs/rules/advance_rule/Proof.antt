@@ -3,7 +3,7 @@ use mathlib.Core.Path.{_≡_, sym, _∙_}
 use borrow.Author.Needs.{needs}
 use borrow.Author.Tests.{not-true, not-false}
 use Rattle.protocol.specs.Tools.{guard}
-use Rattle.protocol.specs.Clients.{isEnding, close, advance}
+use Rattle.protocol.specs.Clients.{isEnding}
 use Rattle.machines.specs.Clients.{advance-in}
 use Rattle.machines.specs.Ranges.{administratorInRange, ending-newest}
 use Rattle.machines.specs.Rules.{advanceRule}

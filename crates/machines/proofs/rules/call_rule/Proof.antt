@@ -2,7 +2,6 @@ use mathlib.Core.Path.{sym, _∙_}
 use borrow.Author.Needs.{needs}
 use borrow.Author.Tests.{not-true, not-false}
 use Rattle.protocol.specs.Tools.{guard}
-use Rattle.protocol.specs.Clients.{close, call}
 use Rattle.machines.specs.Rules.{callRule}
 use Rattle.machines.proofs.rules.call_rule.Statement.{statement}
 use Rattle.machines.proofs.rules.call_rule.Tie as tie

@@ -2,7 +2,6 @@ use mathlib.Core.Path.{sym, _∙_}
 use borrow.Author.Needs.{needs}
 use borrow.Author.Tests.{le-leb, lt-leb, not-true, not-false}
 use Rattle.protocol.specs.Tools.{guard}
-use Rattle.protocol.specs.Clients.{close}
 use Rattle.machines.specs.Rules.{falseAnswerRule}
 use Rattle.machines.proofs.rules.false_answer_rule.Statement.{statement}
 use Rattle.machines.proofs.rules.false_answer_rule.Tie as tie

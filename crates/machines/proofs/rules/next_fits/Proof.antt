@@ -1,5 +1,4 @@
 use borrow.Author.Needs.{needs}
-use Rattle.protocol.specs.Clients.{close}
 use Rattle.machines.proofs.rules.next_fits.Statement.{statement}
 use Rattle.machines.proofs.rules.next_fits.Tie as tie
 

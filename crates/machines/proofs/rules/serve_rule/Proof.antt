@@ -3,8 +3,6 @@ use mathlib.Core.Path.{_≡_, sym, _∙_}
 use borrow.Author.Needs.{needs}
 use borrow.Author.Tests.{not-true, not-false}
 use Rattle.protocol.specs.Tools.{guard}
-use Rattle.protocol.specs.Servers.{serve}
-use Rattle.protocol.specs.Clients.{close}
 use Rattle.machines.specs.Servers.{serveIn, serve-in}
 use Rattle.machines.specs.Ranges.{messageInRange, message-view}
 use Rattle.machines.specs.Rules.{serveRule}

@@ -2,7 +2,6 @@ use mathlib.Core.Path.{sym, _∙_}
 use borrow.Author.Needs.{needs}
 use borrow.Author.Tests.{eq-eqb, ne-eqb, not-true, not-false}
 use Rattle.protocol.specs.Tools.{guard}
-use Rattle.protocol.specs.Clients.{close}
 use Rattle.machines.specs.Rules.{takeRule}
 use Rattle.machines.proofs.rules.take_rule.Statement.{statement}
 use Rattle.machines.proofs.rules.take_rule.Tie as tie

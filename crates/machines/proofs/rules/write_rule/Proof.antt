@@ -2,7 +2,6 @@ use mathlib.Core.Path.{sym, _∙_}
 use borrow.Author.Needs.{needs}
 use borrow.Author.Tests.{not-true, not-false}
 use Rattle.protocol.specs.Tools.{guard}
-use Rattle.protocol.specs.Clients.{begin, close}
 use Rattle.machines.specs.Rules.{writeRule}
 use Rattle.machines.proofs.rules.write_rule.Statement.{statement}
 use Rattle.machines.proofs.rules.write_rule.Tie as tie

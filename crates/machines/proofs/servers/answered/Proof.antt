@@ -1,8 +1,6 @@
 use borrow.Author.Needs.{needs}
 use borrow.Author.Tests.{eq-eqb, ne-eqb}
 use Rattle.protocol.specs.Tools.{guard}
-use Rattle.protocol.specs.Servers.{keeping}
-use Rattle.protocol.specs.Clients.{close}
 use Rattle.machines.proofs.servers.answered.Statement.{statement}
 use Rattle.machines.proofs.servers.answered.Tie as tie
 

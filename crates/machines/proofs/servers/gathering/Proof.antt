@@ -1,6 +1,5 @@
 use borrow.Author.Needs.{needs}
 use Rattle.protocol.specs.Servers.{gathering}
-use Rattle.protocol.specs.Clients.{close}
 use Rattle.machines.specs.Bits.{bit-in}
 use Rattle.machines.proofs.servers.gathering.Statement.{statement}
 use Rattle.machines.proofs.servers.gathering.Tie as tie

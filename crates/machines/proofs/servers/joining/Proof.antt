@@ -1,7 +1,5 @@
 use borrow.Author.Needs.{needs}
-use Rattle.protocol.specs.Entries.{larger}
 use Rattle.protocol.specs.Servers.{joining}
-use Rattle.protocol.specs.Clients.{close}
 use Rattle.machines.specs.Bits.{bit-in}
 use Rattle.machines.proofs.servers.joining.Statement.{statement}
 use Rattle.machines.proofs.servers.joining.Tie as tie

@@ -1,7 +1,5 @@
 use borrow.Author.Needs.{needs}
-use Rattle.protocol.specs.Entries.{larger}
 use Rattle.protocol.specs.Servers.{keeping}
-use Rattle.protocol.specs.Clients.{close}
 use Rattle.machines.proofs.servers.keeping.Statement.{statement}
 use Rattle.machines.proofs.servers.keeping.Tie as tie
 

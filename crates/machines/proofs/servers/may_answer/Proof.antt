@@ -1,9 +1,8 @@
 use mathlib.Core.Path.{sym, _∙_}
 use borrow.Author.Needs.{needs}
 use borrow.Author.Tests.{le-leb, lt-leb, not-true, not-false}
-use Rattle.protocol.specs.Tools.{guard, holds}
+use Rattle.protocol.specs.Tools.{guard}
 use Rattle.protocol.specs.Servers.{mayAnswer}
-use Rattle.protocol.specs.Clients.{close}
 use Rattle.machines.proofs.servers.may_answer.Statement.{statement}
 use Rattle.machines.proofs.servers.may_answer.Tie as tie
 

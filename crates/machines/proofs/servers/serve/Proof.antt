@@ -5,7 +5,6 @@ use borrow.Author.Needs.{needs}
 use borrow.Author.Tests.{le-leb, lt-leb, eq-eqb, ne-eqb, not-true, not-false}
 use Rattle.protocol.specs.Tools.{guard, holds}
 use Rattle.protocol.specs.Servers.{serve}
-use Rattle.protocol.specs.Clients.{close}
 use Rattle.machines.specs.Types.{Server, Message}
 use Rattle.machines.specs.Servers.{answered, serveIn}
 use Rattle.machines.proofs.servers.serve.Statement.{statement}

@@ -1,9 +1,7 @@
 use mathlib.Core.Path.{sym, _∙_}
 use borrow.Author.Needs.{needs}
 use borrow.Author.Tests.{lt-ltb, le-ltb, not-true, not-false}
-use Rattle.protocol.specs.Tools.{guard, holds}
-use Rattle.protocol.specs.Servers.{joining, gathering}
-use Rattle.protocol.specs.Clients.{close}
+use Rattle.protocol.specs.Tools.{guard}
 use Rattle.machines.proofs.servers.start.Statement.{statement}
 use Rattle.machines.proofs.servers.start.Tie as tie
 

@@ -1,6 +1,5 @@
 use mathlib.Core.Path.{refl}
 use Rattle.protocol.specs.Servers.{withoutKey}
-use Rattle.protocol.specs.Clients.{close}
 use Rattle.machines.proofs.servers.without_key.Statement.{statement}
 use Rattle.machines.proofs.servers.without_key.Tie as tie
 

@@ -5,7 +5,6 @@ use lib.Pow.{pow-lt}
 use borrow.Author.Needs.{needs}
 use borrow.Author.Tests.{le-leb, lt-leb}
 use Rattle.protocol.specs.Tools.{bitOf}
-use Rattle.protocol.specs.Clients.{close}
 use Rattle.machines.specs.Bits.{bitIn, bit-at}
 use Rattle.machines.proofs.sizes.bit_of.Statement.{statement}
 use Rattle.machines.proofs.sizes.bit_of.Tie as tie

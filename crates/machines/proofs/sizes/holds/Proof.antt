@@ -2,7 +2,6 @@ use mathlib.Core.Path.{sym}
 use native.Mathlib.Omega.{arith}
 use borrow.Author.Needs.{needs}
 use Rattle.protocol.specs.Tools.{holds}
-use Rattle.protocol.specs.Clients.{close}
 use Rattle.machines.specs.Bits.{holds-at, holds-beyond}
 use Rattle.machines.proofs.sizes.holds.Statement.{statement}
 use Rattle.machines.proofs.sizes.holds.Tie as tie

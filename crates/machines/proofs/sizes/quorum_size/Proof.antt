@@ -4,7 +4,6 @@ use borrow.Author.Needs.{needs}
 use borrow.Author.Tests.{le-leb, lt-leb}
 use Rattle.protocol.specs.Tools.{guard}
 use Rattle.protocol.specs.Sizes.{quorum, quorumSize}
-use Rattle.protocol.specs.Clients.{close}
 use Rattle.machines.proofs.sizes.quorum_size.Statement.{statement}
 use Rattle.machines.proofs.sizes.quorum_size.Tie as tie
 

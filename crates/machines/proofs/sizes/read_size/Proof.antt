@@ -1,7 +1,6 @@
 use native.Mathlib.Omega.{arith}
 use borrow.Author.Needs.{needs}
 use Rattle.protocol.specs.Sizes.{quorum, readSize}
-use Rattle.protocol.specs.Clients.{close}
 use Rattle.machines.specs.Sizes.{size-le}
 use Rattle.machines.proofs.sizes.read_size.Statement.{statement}
 use Rattle.machines.proofs.sizes.read_size.Tie as tie

@@ -1,6 +1,5 @@
 use borrow.Author.Needs.{needs}
 use Rattle.protocol.specs.Sizes.{size}
-use Rattle.protocol.specs.Clients.{close}
 use Rattle.machines.specs.Bits.{ones-size}
 use Rattle.machines.proofs.sizes.size_of.Statement.{statement}
 use Rattle.machines.proofs.sizes.size_of.Tie as tie

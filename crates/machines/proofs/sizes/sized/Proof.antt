@@ -2,7 +2,6 @@ use Prim.Native.Nat.{_^_}
 use borrow.Author.Needs.{needs}
 use borrow.Author.Tests.{lt-ltb, le-leb, lt-leb}
 use Rattle.protocol.specs.Sizes.{sized}
-use Rattle.protocol.specs.Clients.{close}
 use Rattle.machines.proofs.sizes.sized.Statement.{statement}
 use Rattle.machines.proofs.sizes.sized.Tie as tie
 

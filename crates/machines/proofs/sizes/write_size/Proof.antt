@@ -1,7 +1,6 @@
 use native.Mathlib.Omega.{arith}
 use borrow.Author.Needs.{needs}
 use Rattle.protocol.specs.Sizes.{quorum, writeSize}
-use Rattle.protocol.specs.Clients.{close}
 use Rattle.machines.specs.Sizes.{size-le}
 use Rattle.machines.proofs.sizes.write_size.Statement.{statement}
 use Rattle.machines.proofs.sizes.write_size.Tie as tie

@@ -1,7 +1,5 @@
 use borrow.Author.Needs.{needs}
 use borrow.Author.Tests.{eq-eqb, ne-eqb}
-use Rattle.protocol.specs.Entries.{larger}
-use Rattle.protocol.specs.Clients.{close}
 use Rattle.machines.specs.Tallies.{addAnswer}
 use Rattle.machines.proofs.tally.add_answer.Statement.{statement}
 use Rattle.machines.proofs.tally.add_answer.Tie as tie

@@ -1,6 +1,5 @@
 use borrow.Author.Needs.{needs}
 use borrow.Author.Tests.{le-leb, lt-leb}
-use Rattle.protocol.specs.Clients.{close}
 use Rattle.machines.specs.Bits.{ones-size}
 use Rattle.machines.specs.Tallies.{closesAt}
 use Rattle.machines.proofs.tally.closes.Statement.{statement}

@@ -1,5 +1,4 @@
 use borrow.Author.Needs.{needs}
-use Rattle.protocol.specs.Clients.{close}
 use Rattle.machines.specs.Tallies.{firstAnswer}
 use Rattle.machines.proofs.tally.first_answer.Statement.{statement}
 use Rattle.machines.proofs.tally.first_answer.Tie as tie

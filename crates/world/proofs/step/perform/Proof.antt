@@ -1,0 +1,107 @@
+use mathlib.Core.Path.{refl}
+use Rattle.codec.specs.Images.{decode}
+use Rattle.protocol.specs.Steps.{uses}
+use Rattle.protocol.specs.Laws.Turns.{client-of as who-client, server-of as who-server}
+use Rattle.world.specs.Delivers.{by}
+use Rattle.world.specs.Checks.{source-low}
+use Rattle.world.specs.Performs.{as-write, as-read, as-deliver, as-take, as-fault, as-false, as-view}
+use borrow.Author.Needs.{needs}
+use Rattle.world.proofs.step.perform.Statement.{statement}
+use Rattle.world.proofs.step.perform.Tie as tie
+
+begins-requires : tie.Need-begins-requires
+unfolding uses
+begins-requires c κs = let d = c .before .before .before .before .before .before in let i = who-client (d .args .st) 1 (d .pre .1) (c .before .match .keys1) refl in (d .pre .0, i .low, i .high)
+
+begins-requires-2 : tie.Need-begins-requires-2
+unfolding uses
+begins-requires-2 c κs = let d = c .before .before .before .before .before .before in let i = who-client (d .args .st) 2 (d .pre .1) (c .before .match .keys2) refl in (d .pre .0, i .low, i .high)
+
+deliver-requires : tie.Need-deliver-requires
+unfolding uses
+deliver-requires c κs = let d = c .before .before .before .before .before .before in let i = who-server (d .args .st) 3 (d .pre .1) (c .before .match .keys3) refl refl in (d .pre .0, i .low, i .high)
+
+take-requires : tie.Need-take-requires
+take-requires c κs = search needs
+
+fault-requires : tie.Need-fault-requires
+unfolding uses
+fault-requires c κs = let d = c .before .before .before .before .before .before in let i = who-server (d .args .st) 5 (d .pre .1) (c .before .match .keys5) refl refl in (d .pre .0, i .low, i .high)
+
+false-answer-requires : tie.Need-false-answer-requires
+unfolding uses
+false-answer-requires c κs = let d = c .before .before .before .before .before .before in let i = who-server (d .args .st) 6 (d .pre .1) (c .before .match .keys6) refl refl in (d .pre .0, i .low, i .high, source-low (d .args .st) (d .pre .1))
+
+new-view-requires : tie.Need-new-view-requires
+new-view-requires c κs = search needs
+
+same-length : tie.Need-same-length
+same-length c = search needs
+
+returns : tie.Need-returns
+returns c = let d = c .before .before .before .before .before .before .before .before .before in by (as-write (decode (d .args .image .now)) (d .args .st) (c .before .before .before .before .match .keys1)) (c .before .before .begins .ensures)
+
+same-length-2 : tie.Need-same-length-2
+same-length-2 c = search needs
+
+returns-2 : tie.Need-returns-2
+returns-2 c = let d = c .before .before .before .before .before .before .before .before .before in by (as-read (decode (d .args .image .now)) (d .args .st) (c .before .before .before .before .match .keys2)) (c .before .before .begins2 .ensures)
+
+same-length-3 : tie.Need-same-length-3
+same-length-3 c = search needs
+
+returns-3 : tie.Need-returns-3
+returns-3 c = let d = c .before .before .before .before .before .before .before .before .before in by (as-deliver (decode (d .args .image .now)) (d .args .st) (c .before .before .before .before .match .keys3)) (c .before .before .deliver .ensures)
+
+same-length-4 : tie.Need-same-length-4
+same-length-4 c = search needs
+
+returns-4 : tie.Need-returns-4
+returns-4 c = let d = c .before .before .before .before .before .before .before .before .before in by (as-take (decode (d .args .image .now)) (d .args .st) (c .before .before .before .before .match .keys4)) (c .before .before .take .ensures)
+
+same-length-5 : tie.Need-same-length-5
+same-length-5 c = search needs
+
+returns-5 : tie.Need-returns-5
+returns-5 c = let d = c .before .before .before .before .before .before .before .before .before in by (as-fault (decode (d .args .image .now)) (d .args .st) (c .before .before .before .before .match .keys5)) (c .before .before .fault .ensures)
+
+same-length-6 : tie.Need-same-length-6
+same-length-6 c = search needs
+
+returns-6 : tie.Need-returns-6
+returns-6 c = let d = c .before .before .before .before .before .before .before .before .before in by (as-false (decode (d .args .image .now)) (d .args .st) (c .before .before .before .before .match .keys6)) (c .before .before .false-answer .ensures)
+
+same-length-7 : tie.Need-same-length-7
+same-length-7 c = search needs
+
+returns-7 : tie.Need-returns-7
+returns-7 c = 
+    let d = c .before .before .before .before .before .before .before .before .before in
+    let r = c .before .before .before .before .match .rest in
+    by (as-view (decode (d .args .image .now)) (d .args .st) (r .0 .0 .0 .0 .0 .1) (r .0 .0 .0 .0 .1) (r .0 .0 .0 .1) (r .0 .0 .1) (r .0 .1) (r .1)) (c .before .before .new-view .ensures)
+
+pub perform-spec : {M : Type 1} → statement M
+perform-spec =
+    tie.close
+    (tie.spec
+    begins-requires
+    begins-requires-2
+    deliver-requires
+    take-requires
+    fault-requires
+    false-answer-requires
+    new-view-requires
+    same-length
+    returns
+    same-length-2
+    returns-2
+    same-length-3
+    returns-3
+    same-length-4
+    returns-4
+    same-length-5
+    returns-5
+    same-length-6
+    returns-6
+    same-length-7
+    returns-7)

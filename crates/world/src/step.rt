@@ -1,0 +1,81 @@
+// One step on an image: check 3, then by kind; on any image and any bytes.
+ghost use mathlib.Core.Bool.{true};
+ghost use mathlib.Core.Path.{_≡_};
+ghost use lib.ListN.{length};
+ghost use Rattle.protocol.specs.Steps.{fieldsFit, perform as performOn, step as stepOf};
+ghost use Rattle.protocol.specs.Runs.{stepWidth, stepOf as stepIn};
+ghost use Rattle.codec.specs.Images.{decode};
+ghost use Rattle.consistency.specs.Steps.{stepOn};
+ghost use Rattle.world.specs.Images.{Legible, Does};
+use codec::layout::IMAGE;
+use codec::records::read_step;
+use codec::layout::STEP;
+use image::readable::readable;
+use protocol::ServerNumber;
+use protocol::Step;
+use protocol::View;
+use super::clients::begins;
+use super::fields::fields_fit;
+use super::servers::deliver;
+use super::servers::false_answer;
+use super::servers::fault;
+use super::take::take;
+use super::views::new_view;
+use super::Stepped;
+
+// "1 write ... 2 read ... 3 deliver ... 4 take ... 5 fault ... 6 false answer ... 7 new view"
+fn perform(image: &mut [u8], st: Step) -> Stepped
+    requires { ⌜ Legible (now image) × (fieldsFit st ≡ true) ⌝ }
+    ensures { λ r. ⌜ Does r (now (image .entry)) (now (image .exit)) (performOn (decode (now (image .entry))) st) ⌝ }
+{
+    let kind = st.kind;
+    let who = st.who;
+    let n = st.message;
+    let t = st.view;
+    let source = st.source;
+    match kind {
+        1 => begins(image, who, 1, st.value),
+        2 => begins(image, who, 2, 0),
+        3 => deliver(image, ServerNumber(who), n),
+        4 => take(image, n),
+        5 => fault(image, ServerNumber(who)),
+        6 => false_answer(image, ServerNumber(who), t, n, source),
+        _ => new_view(
+            image,
+            View {
+                members: st.value,
+                f: st.f,
+            },
+        ),
+    }
+}
+
+// A step on a readable image, which stays readable.
+pub fn advance(image: &mut [u8], bytes: &[u8]) -> Stepped
+    requires { ⌜ Legible (now image) × (length (now bytes) ≡ stepWidth) ⌝ }
+    ensures { λ r. ⌜ Does r (now (image .entry)) (now (image .exit)) (stepOf (decode (now (image .entry))) (stepIn (now (bytes .entry)))) ⌝ }
+{
+    let st = read_step(bytes);
+    let fits = fields_fit(st);
+    if !fits {
+        return Stepped::StepRefused(3);
+    }
+    perform(image, st)
+}
+
+// "Any step: 1, image or step of wrong length; 2, unreadable; 3 ... Then by kind": for every image and every step.
+pub fn step(image: &mut [u8], bytes: &[u8]) -> Stepped
+    ensures { λ r. ⌜ Does r (now (image .entry)) (now (image .exit)) (stepOn (now (image .entry)) (now (bytes .entry))) ⌝ }
+{
+    if image.len() != IMAGE {
+        return Stepped::StepRefused(1);
+    }
+    if bytes.len() != STEP {
+        return Stepped::StepRefused(1);
+    }
+    let legible = readable(image);
+    if !legible {
+        return Stepped::StepRefused(2);
+    }
+    advance(image, bytes)
+}

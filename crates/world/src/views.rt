@@ -1,0 +1,44 @@
+// New views of an image.
+ghost use Rattle.protocol.specs.Steps.{newView};
+ghost use Rattle.codec.specs.Images.{decode};
+ghost use Rattle.world.specs.Images.{Legible, Does};
+use super::Stepped;
+use super::mail::request;
+use super::mail::send;
+use codec::image::load_administrator;
+use codec::image::load_used;
+use codec::image::store_administrator;
+use codec::image::store_view;
+use machines::administrator::call;
+use machines::entries::entry_of;
+use protocol::Called;
+use protocol::MessageNumber;
+use protocol::View;
+use protocol::ViewNumber;
+
+// "New view t+1, t being the newest: its members and f are recorded and END t is sent." "4, ending; 8, size rule broken or
+// newest is 32; 10."
+pub fn new_view(image: &mut [u8], v: View) -> Stepped
+    requires { ⌜ Legible (now image) ⌝ }
+    ensures { λ r. ⌜ Does r (now (image .entry)) (now (image .exit)) (newView (decode (now (image .entry))) v) ⌝ }
+{
+    let used = load_used(image);
+    let before = load_administrator(image);
+    let newest = before.newest;
+    let t = newest.0;
+    let empty = entry_of(0, 0, 0);
+    let called = call(before, v, MessageNumber(used + 1));
+    match called {
+        Called::CallRefused(n) => Stepped::StepRefused(n),
+        Called::Calling(a) => {
+            if 1023 <= used {
+                return Stepped::StepRefused(10);
+            }
+            let end = request(3, 0, newest, empty);
+            store_administrator(image, a);
+            store_view(image, ViewNumber(t + 1), v);
+            send(image, MessageNumber(used + 1), end);
+            Stepped::StepDone(0)
+        }
+    }
+}
