@@ -1,5 +1,6 @@
 -- A journal and its replay on an image. Assumes nothing.
 use Prim.Native.Nat.{ℕ, zero, suc, _+_, _*_, _-_, _/_, _%_, _≤_, _<_}
+use native.Mathlib.Numerals.{add-one}
 use native.Mathlib.Omega.{arith}
 use mathlib.Core.Bool.{Bool, true, false, _&&_}
 use mathlib.Core.Path.{_≡_, refl, sym, ap, ap₂, subst, _∙_}
@@ -16,7 +17,12 @@ use Rattle.protocol.specs.Runs.{stepWidth, stepOf, stepBytes, left, Replayed, o
 use Rattle.codec.specs.Layout.{imageSize}
 use Rattle.codec.specs.Images.{encode, decode}
 use Rattle.image.specs.Readable.{readable, Read, read, world-decode, world-readable}
-use Rattle.preservation.specs.Begun.{left-kept}
+use Rattle.preservation.specs.Kept.{step-kept}
+use Rattle.consistency.specs.Steps.{leftBy, answered}
+use Rattle.journal.specs.declared.Replayed.{Replayed as Answer}
+use Rattle.world.specs.declared.Stepped.{Stepped}
+use Rattle.world.specs.declared.Stepped.the-variants.{StepRefused, StepDone}
+use Rattle.world.specs.Images.{Legible, Does, stepped}
 
 -- the steps of a journal, each 12 bytes: n of them
 unfoldable pub stepsIn : ℕ → List ℕ → List (List ℕ)
@@ -34,6 +40,12 @@ pub record Played : Type 0 where
 
 abbrev pub played : Replayed → Played
 played r = record { steps = r .steps; refusal = r .refusal; image = encode (r .world) }
+
+-- the function answered r and left the image l, as p
+pub record Plays (r : Answer) (l : List ℕ) (p : Played) : Type 0 where
+  pub steps : r .steps ≡ p .steps
+  pub refusal : r .refusal ≡ p .refusal
+  pub image : l ≡ p .image
 
 abbrev pub unplayed : List ℕ → ℕ → Played
 unplayed i n = record { steps = 0; refusal = n; image = i }
@@ -72,7 +84,155 @@ beyond zero l = l
 beyond (suc n) [] = []
 beyond (suc n) (x ∷ l) = beyond n l
 
+beyond-next : {A : Type 0} (n : ℕ) (x : A) (l : List A) → beyond (n + 1) (x ∷ l) ≡ beyond n l
+unfolding beyond
+beyond-next n x l = rw (add-one n) refl
+
 -- "The rest of the journal after the last accepted step can be replayed on the same image with the same end."
 pub rest-stops : (w : World) (bs : List (List ℕ)) → replay (replay w bs .world) (beyond (replay w bs .steps) bs) ≡ record { world = replay w bs .world; steps = 0; refusal = replay w bs .refusal }
-rest-stops w [] = ?a
-rest-stops w (b ∷ bs) = ?b
+unfolding replay beyond
+rest-stops w [] = refl
+rest-stops w (b ∷ bs) = go (stepBytes w b) refl (λ v. rest-stops v bs)
+  where
+    stop : Replayed
+    stop = record { world = w; steps = 0; refusal = 0 }
+
+    go : (x : Result After) → stepBytes w b ≡ x → ((v : World) → replay (replay v bs .world) (beyond (replay v bs .steps) bs) ≡ record { world = replay v bs .world; steps = 0; refusal = replay v bs .refusal })
+        → replay (onward x stop (λ v. replay v bs) .world) (beyond (onward x stop (λ v. replay v bs) .steps) (b ∷ bs))
+        ≡ record { world = onward x stop (λ v. replay v bs) .world; steps = 0; refusal = onward x stop (λ v. replay v bs) .refusal }
+    go (refused n) e ih = replay-refused w b bs n e
+    go (done a) e ih = ap (replay (replay (a .world) bs .world)) (beyond-next (replay (a .world) bs .steps) b bs) ∙ ih (a .world)
+
+-- ---- a replay that goes on
+
+abbrev pub legible : (l : List ℕ) → Read l → Legible l
+legible l r = record { size = r .size; image = r .image; formed = r .world }
+
+-- the image of a readable world
+pub spelled : (w : World) → wellFormed w ≡ true → (l : List ℕ) → l ≡ encode w → Legible l
+spelled w h l e = subst Legible (sym e) (legible (encode w) (read (encode w) (world-readable w h)))
+
+-- an accepted step leaves a readable image
+pub advanced : (r : Stepped) (l l′ : List ℕ) (b : List ℕ) → Legible l → length b ≡ stepWidth → Does r l l′ (step (decode l) (stepOf b)) → Legible l′
+advanced r l l′ b h k d = go (step (decode l) (stepOf b)) refl (d .image)
+  where
+    go : (x : Result After) → step (decode l) (stepOf b) ≡ x → l′ ≡ leftBy l x → Legible l′
+    go (refused n) e q = subst Legible (sym q) h
+    go (done a) e q = spelled (a .world) (step-kept (decode l) (h .formed) (stepOf b) a e) l′ q
+
+-- the first n steps of the journal j, which began on the image l₀, were done, and led to the image l
+pub record Going (l₀ j l : List ℕ) (at : ℕ) : Type 0 where
+  pub legible : Legible l
+  pub whole : length j % stepWidth ≡ 0
+  pub even : at % stepWidth ≡ 0
+  pub bound : at ≤ length j
+  pub rest : replay (decode l₀) (stepsOf j) ≡ after (at / stepWidth) (replay (decode l) (stepsOf (drop at j)))
+
+pub going-start : (l j : List ℕ) → Legible l → length j % stepWidth ≡ 0 → Going l j l 0
+going-start l j h k = record { legible = h; whole = k; even = refl; bound = omega arith; rest = from-none (replay (decode l) (stepsOf j)) }
+  where
+    from-none : (r : Replayed) → r ≡ after 0 r
+    from-none r = let e : r .steps ≡ r .steps + 0 = omega arith in λ i. record { world = r .world; steps = e i; refusal = r .refusal }
+
+-- the part of the journal from at on begins with one step
+steps-next : (n : ℕ) (r : List ℕ) → 0 < n → stepsIn n r ≡ take stepWidth r ∷ stepsIn (n - 1) (drop stepWidth r)
+unfolding stepsIn
+steps-next zero r h = absurd (omega arith)
+steps-next (suc n) r h = let e : n ≡ suc n - 1 = omega arith in ap (λ (k : ℕ). take stepWidth r ∷ stepsIn k (drop stepWidth r)) e
+
+module _ (j : List ℕ) (at : ℕ) (whole : length j % stepWidth ≡ 0) (even : at % stepWidth ≡ 0) (below : at < length j) where
+  -- what is lent from at on
+  lent : take (length j - at) (drop at j) ≡ drop at j
+  lent = let e = length-drop at j in take-all (length j - at) (drop at j) (omega arith)
+
+  pub room : stepWidth ≤ length (take (length j - at) (drop at j))
+  room = let e = length-drop at j in let f = ap (λ (r : List ℕ). length r) lent in omega arith
+
+  on : drop stepWidth (drop at j) ≡ drop (at + stepWidth) j
+  on = drop-drop stepWidth at j
+
+  fewer : length (drop at j) / stepWidth - 1 ≡ length (drop (at + stepWidth) j) / stepWidth
+  fewer = let e = length-drop at j in let f = length-drop (at + stepWidth) j in omega arith
+
+  steps-on : stepsOf (drop at j) ≡ take stepWidth (take (length j - at) (drop at j)) ∷ stepsOf (drop (at + stepWidth) j)
+  unfolding stepsOf
+  steps-on =
+    steps-next (length (drop at j) / stepWidth) (drop at j) (let e = length-drop at j in omega arith)
+    ∙ ap₂ (λ (n : ℕ) (r : List ℕ). take stepWidth (drop at j) ∷ stepsIn n r) fewer on
+    ∙ ap (λ (r : List ℕ). take stepWidth r ∷ stepsOf (drop (at + stepWidth) j)) (sym lent)
+
+step-whole : (w : World) (b : List ℕ) → length b ≡ stepWidth → stepBytes w b ≡ step w (stepOf b)
+unfolding stepBytes guard
+step-whole w b e = rw (eq-eqb (length b) stepWidth e) refl
+
+-- what follows from a step of the part from at on
+module _ {l₀ j l : List ℕ} {at : ℕ} (g : Going l₀ j l at) (below : at < length j) where
+  abbrev part : List ℕ
+  part = take stepWidth (take (length j - at) (drop at j))
+
+  twelve : length part ≡ stepWidth
+  twelve = let e = length-take stepWidth (take (length j - at) (drop at j)) in let h = room j at (g .whole) (g .even) below in omega arith
+
+  ahead : replay (decode l₀) (stepsOf j) ≡ after (at / stepWidth) (replay (decode l) (part ∷ stepsOf (drop (at + stepWidth) j)))
+  ahead = g .rest ∙ ap (λ (x : List (List ℕ)). after (at / stepWidth) (replay (decode l) x)) (steps-on j at (g .whole) (g .even) below)
+
+  whole-step : stepBytes (decode l) part ≡ step (decode l) (stepOf part)
+  whole-step = step-whole (decode l) part twelve
+
+  pub going-stop : (r : Stepped) (n : ℕ) (l′ : List ℕ) → r ≡ StepRefused n → Does r l l′ (step (decode l) (stepOf part)) → Plays (record { steps = at / stepWidth; refusal = n }) l′ (played (replay (decode l₀) (stepsOf j)))
+  going-stop r n l′ q d = go (step (decode l) (stepOf part)) refl (ap stepped (sym q) ∙ d .answer) (d .image)
+    where
+      go : (x : Result After) → step (decode l) (stepOf part) ≡ x → refused n ≡ answered x → l′ ≡ leftBy l x → Plays (record { steps = at / stepWidth; refusal = n }) l′ (played (replay (decode l₀) (stepsOf j)))
+      go (done a) e r i = let z : _≡_ {A = ℕ} 0 1 = cc in absurd (omega arith)
+      go (refused m) e r i =
+        let same : n ≡ m = cc in
+        let all : replay (decode l₀) (stepsOf j) ≡ record { world = decode l; steps = 0 + at / stepWidth; refusal = m } = ahead ∙ ap (after (at / stepWidth)) (replay-refused (decode l) part (stepsOf (drop (at + stepWidth) j)) m (whole-step ∙ e)) in
+        rw all (record { steps = omega arith; refusal = same; image = i ∙ sym (g .legible .image) })
+
+  pub going-on : (r : Stepped) (c : ℕ) (l′ : List ℕ) → r ≡ StepDone c → Does r l l′ (step (decode l) (stepOf part)) → Going l₀ j l′ (at + stepWidth)
+  going-on r c l′ q d = record { legible = next; whole = g .whole; even = (let e = g .even in omega arith); bound = (let e = g .even in let f = g .whole in omega arith); rest = go (step (decode l) (stepOf part)) refl (ap stepped (sym q) ∙ d .answer) (d .image) }
+    where
+      next : Legible l′
+      next = advanced r l l′ part (g .legible) twelve d
+
+      more : (r : Replayed) → after (at / stepWidth) (after 1 r) ≡ after ((at + stepWidth) / stepWidth) r
+      more r = let e : r .steps + 1 + at / stepWidth ≡ r .steps + (at + stepWidth) / stepWidth = omega arith in λ i. record { world = r .world; steps = e i; refusal = r .refusal }
+
+      go : (x : Result After) → step (decode l) (stepOf part) ≡ x → done c ≡ answered x → l′ ≡ leftBy l x → replay (decode l₀) (stepsOf j) ≡ after ((at + stepWidth) / stepWidth) (replay (decode l′) (stepsOf (drop (at + stepWidth) j)))
+      go (refused m) e r i = let z : _≡_ {A = ℕ} 0 1 = cc in absurd (omega arith)
+      go (done a) e r i =
+        let here : a .world ≡ decode l′ = sym (world-decode (a .world) (step-kept (decode l) (g .legible .formed) (stepOf part) a e)) ∙ ap decode (sym i) in
+        ahead
+        ∙ ap (after (at / stepWidth)) (replay-done (decode l) part (stepsOf (drop (at + stepWidth) j)) a (whole-step ∙ e))
+        ∙ more (replay (a .world) (stepsOf (drop (at + stepWidth) j)))
+        ∙ ap (λ (w : World). after ((at + stepWidth) / stepWidth) (replay w (stepsOf (drop (at + stepWidth) j)))) here
+
+pub going-end : {l₀ j l : List ℕ} {at : ℕ} → Going l₀ j l at → length j ≤ at → Plays (record { steps = at / stepWidth; refusal = 0 }) l (played (replay (decode l₀) (stepsOf j)))
+unfolding stepsOf stepsIn
+going-end {l₀} {j} {l} {at} g h = rw all (record { steps = omega arith; refusal = refl; image = sym (g .legible .image) })
+  where
+    empty : stepsOf (drop at j) ≡ []
+    empty = let e : length (drop at j) / stepWidth ≡ 0 = (let d = length-drop at j in omega arith) in ap (λ (n : ℕ). stepsIn n (drop at j)) e
+
+    all : replay (decode l₀) (stepsOf j) ≡ record { world = decode l; steps = 0 + at / stepWidth; refusal = 0 }
+    all = g .rest ∙ ap (λ (x : List (List ℕ)). after (at / stepWidth) (replay (decode l) x)) empty ∙ ap (after (at / stepWidth)) (replay-none (decode l))
+
+-- ---- any image and any journal
+
+module _ (l j : List ℕ) where
+  pub wrong-image : (length l ≡ imageSize → ⊥) → Plays (record { steps = 0; refusal = 1 }) l (replayOn l j)
+  unfolding replayOn
+  wrong-image e = rw (ne-eqb (length l) imageSize e) (record { steps = refl; refusal = refl; image = refl })
+
+  pub wrong-journal : length l ≡ imageSize → (length j % stepWidth ≡ 0 → ⊥) → Plays (record { steps = 0; refusal = 1 }) l (replayOn l j)
+  unfolding replayOn
+  wrong-journal h e = rw (eq-eqb (length l) imageSize h, ne-eqb (length j % stepWidth) 0 e) (record { steps = refl; refusal = refl; image = refl })
+
+  module _ (h : length l ≡ imageSize) (k : length j % stepWidth ≡ 0) where
+    pub unreadable : readable l ≡ false → Plays (record { steps = 0; refusal = 2 }) l (replayOn l j)
+    unfolding replayOn
+    unreadable e = rw (eq-eqb (length l) imageSize h, eq-eqb (length j % stepWidth) 0 k, e) (record { steps = refl; refusal = refl; image = refl })
+
+    pub whole-replay : readable l ≡ true → replayOn l j ≡ played (replay (decode l) (stepsOf j))
+    unfolding replayOn
+    whole-replay e = rw (eq-eqb (length l) imageSize h, eq-eqb (length j % stepWidth) 0 k, e) refl

@@ -1,0 +1,71 @@
+// Replay: the image is tested once, then each step touches only what it changes.
+ghost use Prim.Native.Nat.{_%_, _≤_};
+ghost use mathlib.Core.Path.{_≡_};
+ghost use lib.ListN.{length, take};
+ghost use Rattle.protocol.specs.Steps.{step as stepOf};
+ghost use Rattle.protocol.specs.Runs.{stepWidth, stepOf as stepIn, replay as replayOf};
+ghost use Rattle.codec.specs.Images.{decode};
+ghost use Rattle.world.specs.Images.{Legible, Does};
+ghost use Rattle.journal.specs.Replays.{Plays, played, stepsOf, replayOn};
+use codec::layout::IMAGE;
+use codec::layout::STEP;
+use image::readable::readable;
+use super::Replayed;
+use world::Stepped;
+use world::step::advance;
+
+// The first step of a journal's part.
+fn first(image: &mut [u8], rest: &[u8]) -> Stepped
+    requires { ⌜ Legible (now image) × (stepWidth ≤ length (now rest)) ⌝ }
+    ensures { λ r. ⌜ Does r (now (image .entry)) (now (image .exit)) (stepOf (decode (now (image .entry))) (stepIn (take stepWidth (now (rest .entry))))) ⌝ }
+{
+    advance(image, &rest[0..STEP])
+}
+
+// "It stops at the first refused step": on a readable image, a journal of whole steps.
+fn play(image: &mut [u8], journal: &[u8]) -> Replayed
+    requires { ⌜ Legible (now image) × (length (now journal) % stepWidth ≡ 0) ⌝ }
+    ensures { λ r. ⌜ Plays r (now (image .exit)) (played (replayOf (decode (now (image .entry))) (stepsOf (now (journal .entry))))) ⌝ }
+{
+    let mut at = 0usize;
+    while at < journal.len() {
+        let r = first(image, &journal[at..]);
+        if let Stepped::StepRefused(n) = r {
+            return Replayed {
+                steps: at / STEP,
+                refusal: n,
+            };
+        }
+        at += STEP;
+    }
+    Replayed {
+        steps: at / STEP,
+        refusal: 0,
+    }
+}
+
+// "Replay (image, journal): 1, journal not a multiple of 12 or image length wrong; 2.": for every image and every journal.
+pub fn replay(image: &mut [u8], journal: &[u8]) -> Replayed
+    ensures { λ r. ⌜ Plays r (now (image .exit)) (replayOn (now (image .entry)) (now (journal .entry))) ⌝ }
+{
+    if image.len() != IMAGE {
+        return Replayed {
+            steps: 0,
+            refusal: 1,
+        };
+    }
+    if journal.len() % STEP != 0 {
+        return Replayed {
+            steps: 0,
+            refusal: 1,
+        };
+    }
+    let legible = readable(image);
+    if !legible {
+        return Replayed {
+            steps: 0,
+            refusal: 2,
+        };
+    }
+    play(image, journal)
+}
