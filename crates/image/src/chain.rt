@@ -9,12 +9,12 @@ ghost use Rattle.image.specs.Scan.{Open};
 ghost use Rattle.image.specs.Chains.{chainsFit, isTaken};
 ghost use Rattle.image.specs.Walks.{walked, chained};
 use super::sent::present;
-use codec::image::load_message;
-use codec::image::load_used;
 use codec::layout::ANSWER;
 use codec::layout::END;
 use codec::layout::MESSAGES;
 use codec::layout::READ;
+use codec::places::load_message;
+use codec::places::load_used;
 use protocol::MessageNumber;
 
 // A walk along links: the links followed until zero, or none where a link is no taken answer of the request or zero is

@@ -11,11 +11,11 @@ ghost use Rattle.codec.specs.Images.{decode};
 ghost use Rattle.image.specs.Premise.{within, premiseOn, reported};
 use super::bits::holds;
 use super::readable::readable;
-use codec::image::load_administrator;
-use codec::image::load_server;
-use codec::image::load_view;
 use codec::layout::IMAGE;
 use codec::layout::SERVERS;
+use codec::places::load_administrator;
+use codec::places::load_server;
+use codec::places::load_view;
 use protocol::ServerNumber;
 use protocol::ViewNumber;
 

@@ -8,9 +8,9 @@ ghost use Rattle.protocol.specs.Steps.{request as requestOf, answer as answerOf
 ghost use Rattle.codec.specs.Layout.{imageSize};
 ghost use Rattle.codec.specs.Images.{decode};
 ghost use Rattle.world.specs.Images.{Legible, putSent};
-use codec::image::load_used;
-use codec::image::store_message;
-use codec::image::store_used;
+use codec::places::load_used;
+use codec::places::store_message;
+use codec::places::store_used;
 use protocol::Entry;
 use protocol::Message;
 use protocol::MessageNumber;

@@ -12,7 +12,7 @@ use borrow.Fn.PlainCycle.{Measures, is, falls, and}
 use Rattle.image.proofs.chain.walk.Reads as walk
 use Rattle.image.proofs.chain.walk.Kinds as walk-kinds
 use Rattle.image.proofs.chain.+walk.Lts-walk as walk-lts
-use Rattle.codec.proofs.image.load_message.Reads as load-message-reads
+use Rattle.codec.proofs.places.load_message.Reads as load-message-reads
 use Rattle.image.proofs.chain.taken_answer.Reads as taken-answer-reads
 use Rattle.image.proofs.chain.+walk.{statement}
 use Rattle.image.proofs.chain.+walk.Tie.{close}
@@ -34,7 +34,9 @@ walk-returns : (t : ℕ) → walk-lts.Need-returns (
   walk-below t,
   walk.Post,
 ) (walk-at t) walk.Post
-walk-returns t c = sym (walked-end (decode (c .before .before .before .args .image .now)) (c .before .before .before .args .request .0) (c .before .before .before .args .left) (c .before .before .before .args .n .0) (c .before .before .before .args .links) (c .if1 .taken))
+walk-returns t c =
+    let a = c .before .before .before .args in
+    sym (walked-end (decode (a .image .now)) (a .request .0) (a .left) (a .n .0) (a .links) (c .if1 .taken))
 
 walk-returns-2 : (t : ℕ) → walk-lts.Need-returns-2 (
   taken-answer-reads.Asked,
@@ -44,7 +46,9 @@ walk-returns-2 : (t : ℕ) → walk-lts.Need-returns-2 (
   walk-below t,
   walk.Post,
 ) (walk-at t) walk.Post
-walk-returns-2 t c = sym (walked-out (decode (c .before .before .before .before .args .image .now)) (c .before .before .before .before .args .request .0) (c .before .before .before .before .args .left) (c .before .before .before .before .args .n .0) (c .before .before .before .before .args .links) (c .before .if1 .left) (c .if2 .taken))
+walk-returns-2 t c =
+    let a = c .before .before .before .before .args in
+    sym (walked-out (decode (a .image .now)) (a .request .0) (a .left) (a .n .0) (a .links) (c .before .if1 .left) (c .if2 .taken))
 
 walk-taken-answer-requires : (t : ℕ) → walk-lts.Need-taken-answer-requires (
   taken-answer-reads.Asked,
@@ -64,7 +68,9 @@ walk-returns-3 : (t : ℕ) → walk-lts.Need-returns-3 (
   walk-below t,
   walk.Post,
 ) (walk-at t) walk.Post
-walk-returns-3 t c = sym (walked-stray (decode (c .before .before .before .before .before .before .args .image .now)) (c .before .before .before .before .before .before .args .request .0) (c .before .before .before .before .before .before .args .left) (c .before .before .before .before .before .before .args .n .0) (c .before .before .before .before .before .before .args .links) (c .before .before .before .if1 .left) (c .before .before .if2 .left) (sym (c .before .taken-answer .ensures) ∙ not-true _ (c .if3 .taken)))
+walk-returns-3 t c =
+    let a = c .before .before .before .before .before .before .args in
+    sym (walked-stray (decode (a .image .now)) (a .request .0) (a .left) (a .n .0) (a .links) (c .before .before .before .if1 .left) (c .before .before .if2 .left) (sym (c .before .taken-answer .ensures) ∙ not-true _ (c .if3 .taken)))
 
 walk-load-message-requires : (t : ℕ) → walk-lts.Need-load-message-requires (
   taken-answer-reads.Asked,
@@ -74,7 +80,9 @@ walk-load-message-requires : (t : ℕ) → walk-lts.Need-load-message-requires (
   walk-below t,
   walk.Post,
 ) (walk-at t) walk.Post
-walk-load-message-requires t c κs = (search needs, taken-used (c .before .before .before .before .before .before .args .image .now) (c .before .before .before .before .before .before .args .request .0) (c .before .before .before .before .before .before .args .n .0) (sym (c .before .taken-answer .ensures) ∙ not-false _ (c .if3 .left)) (open-used (c .before .before .before .before .before .before .args .image .now) (c .before .before .before .before .before .before .pre .1 .0)))
+walk-load-message-requires t c κs =
+    let a = c .before .before .before .before .before .before .args in
+    (search needs, taken-used (a .image .now) (a .request .0) (a .n .0) (sym (c .before .taken-answer .ensures) ∙ not-false _ (c .if3 .left)) (open-used (a .image .now) (c .before .before .before .before .before .before .pre .1 .0)))
 
 walk-sub-walk : (t : ℕ) → walk-lts.Need-sub-walk (
   taken-answer-reads.Asked,
@@ -115,8 +123,9 @@ walk-returns-4 : (t : ℕ) → walk-lts.Need-returns-4 (
   walk.Post,
 ) (walk-at t) walk.Post
 walk-returns-4 t c =
-    let e = c .before .before .load-message .ensures ∙ sym (message-decode (c .before .before .before .before .before .before .before .before .before .args .image .now) (c .before .before .before .before .before .before .before .before .before .args .n .0) (taken-used (c .before .before .before .before .before .before .before .before .before .args .image .now) (c .before .before .before .before .before .before .before .before .before .args .request .0) (c .before .before .before .before .before .before .before .before .before .args .n .0) (sym (c .before .before .before .before .taken-answer .ensures) ∙ not-false _ (c .before .before .before .if3 .left)) (open-used (c .before .before .before .before .before .before .before .before .before .args .image .now) (c .before .before .before .before .before .before .before .before .before .pre .1 .0)))) in
-    rw (walked-on (decode (c .before .before .before .before .before .before .before .before .before .args .image .now)) (c .before .before .before .before .before .before .before .before .before .args .request .0) (c .before .before .before .before .before .before .before .before .before .args .left) (c .before .before .before .before .before .before .before .before .before .args .n .0) (c .before .before .before .before .before .before .before .before .before .args .links) (c .before .before .before .before .before .before .if1 .left) (c .before .before .before .before .before .if2 .left) (sym (c .before .before .before .before .taken-answer .ensures) ∙ not-false _ (c .before .before .before .if3 .left)), ← e) (c .walk .ensures)
+    let a = c .before .before .before .before .before .before .before .before .before .args in
+    let e = c .before .before .load-message .ensures ∙ sym (message-decode (a .image .now) (a .n .0) (taken-used (a .image .now) (a .request .0) (a .n .0) (sym (c .before .before .before .before .taken-answer .ensures) ∙ not-false _ (c .before .before .before .if3 .left)) (open-used (a .image .now) (c .before .before .before .before .before .before .before .before .before .pre .1 .0)))) in
+    rw (walked-on (decode (a .image .now)) (a .request .0) (a .left) (a .n .0) (a .links) (c .before .before .before .before .before .before .if1 .left) (c .before .before .before .before .before .if2 .left) (sym (c .before .before .before .before .taken-answer .ensures) ∙ not-false _ (c .before .before .before .if3 .left)), ← e) (c .walk .ensures)
 
 pub +walk-spec : {M : Type 1} → statement M
 +walk-spec = close μ-walk λ t. walk-lts.spec (

@@ -12,15 +12,17 @@ load-message-requires c κs = search needs
 returns : tie.Need-returns
 unfolding chained
 returns c =
-    let i = c .before .before .before .before .before .args .image .now in
-    let e = c .before .before .before .load-message .ensures ∙ sym (message-decode i (c .before .before .before .before .before .args .r .0) (c .before .before .before .before .before .pre .1)) in
+    let a = c .before .before .before .before .before .args in
+    let i = a .image .now in
+    let e = c .before .before .before .load-message .ensures ∙ sym (message-decode i (a .r .0) (c .before .before .before .before .before .pre .1)) in
     rw (← e, lt-leb _ _ (c .if1 .taken))
 
 returns-2 : tie.Need-returns-2
 unfolding chained
 returns-2 c =
-    let i = c .before .before .before .before .before .before .before .args .image .now in
-    let e = c .before .before .before .before .before .load-message .ensures ∙ sym (message-decode i (c .before .before .before .before .before .before .before .args .r .0) (c .before .before .before .before .before .before .before .pre .1)) in
+    let a = c .before .before .before .before .before .before .before .args in
+    let i = a .image .now in
+    let e = c .before .before .before .before .before .load-message .ensures ∙ sym (message-decode i (a .r .0) (c .before .before .before .before .before .before .before .pre .1)) in
     rw (← e, le-leb _ _ (c .before .before .if1 .left), lt-leb _ _ (c .if2 .taken))
 
 walk-requires : tie.Need-walk-requires
@@ -29,8 +31,9 @@ walk-requires c κs = search needs
 returns-3 : tie.Need-returns-3
 unfolding chained
 returns-3 c =
-    let i = c .before .before .before .before .before .before .before .before .args .image .now in
-    let e = c .before .before .before .before .before .before .load-message .ensures ∙ sym (message-decode i (c .before .before .before .before .before .before .before .before .args .r .0) (c .before .before .before .before .before .before .before .before .pre .1)) in
+    let a = c .before .before .before .before .before .before .before .before .args in
+    let i = a .image .now in
+    let e = c .before .before .before .before .before .before .load-message .ensures ∙ sym (message-decode i (a .r .0) (c .before .before .before .before .before .before .before .before .pre .1)) in
     rw (← e, le-leb _ _ (c .before .before .before .if1 .left), le-leb _ _ (c .before .if2 .left)) (c .walk .ensures)
 
 pub chain-of-spec : {M : Type 1} → statement M

@@ -29,13 +29,17 @@ load-used-requires : tie.Need-load-used-requires Inv-loop μ-loop
 load-used-requires c κs = c .before .pre .size
 
 loop-holds : tie.Need-loop-holds Inv-loop μ-loop
-loop-holds c = (omega arith, all-start (chainSound (decode (c .before .before .args .image .now))), sym (sum-start (links (decode (c .before .before .args .image .now)))), sym (count-start (isTaken (decode (c .before .before .args .image .now)))), omega arith)
+loop-holds c =
+    let a = c .before .before .args in
+    (omega arith, all-start (chainSound (decode (a .image .now))), sym (sum-start (links (decode (a .image .now)))), sym (count-start (isTaken (decode (a .image .now)))), omega arith)
 
 add-t10 : tie.Need-add-t10 Inv-loop μ-loop
 add-t10 c = search needs
 
 chain-of-requires : tie.Need-chain-of-requires Inv-loop μ-loop
-chain-of-requires c κs = (c .before .before .before .before .pre, (let h = open-used (c .before .before .before .before .args .image .now) (c .before .before .before .before .pre) in omega (arith, c .before .before .load-used .ensures)))
+chain-of-requires c κs =
+    let p = c .before .before .before .before .pre in
+    (p, (let h = open-used (c .before .before .before .before .args .image .now) (p) in omega (arith, c .before .before .load-used .ensures)))
 
 enum-known-chain : tie.Need-enum-known-chain Inv-loop μ-loop
 enum-known-chain c = search needs
@@ -45,25 +49,33 @@ enum-told c = search needs
 
 returns : tie.Need-returns Inv-loop μ-loop
 returns c =
-    let q = broken (chainSound (decode (c .before .before .before .before .before .before .before .args .image .now)) (c .before .before .before .before .loop .k + 1)) (links (decode (c .before .before .before .before .before .before .before .args .image .now)) (c .before .before .before .before .loop .k + 1)) (sym (chained-links (decode (c .before .before .before .before .before .before .before .args .image .now)) (c .before .before .before .before .loop .k + 1)) ∙ sym (c .before .before .chain-of .ensures) ∙ c .enum-told .given .1) in
-    rw (chains-rule (c .before .before .before .before .before .before .before .args .image .now) (c .before .before .before .before .before .load-used .result) (c .before .before .before .before .before .load-used .ensures), all-fails (chainSound (decode (c .before .before .before .before .before .before .before .args .image .now))) (c .before .before .before .before .before .load-used .result) (c .before .before .before .before .loop .k + 1) (omega arith) (omega arith) q)
+    let a = c .before .before .before .before .before .before .before .args in
+    let l = c .before .before .before .before .loop in
+    let q = broken (chainSound (decode (a .image .now)) (l .k + 1)) (links (decode (a .image .now)) (l .k + 1)) (sym (chained-links (decode (a .image .now)) (l .k + 1)) ∙ sym (c .before .before .chain-of .ensures) ∙ c .enum-told .given .1) in
+    rw (chains-rule (a .image .now) (c .before .before .before .before .before .load-used .result) (c .before .before .before .before .before .load-used .ensures), all-fails (chainSound (decode (a .image .now))) (c .before .before .before .before .before .load-used .result) (l .k + 1) (omega arith) (omega arith) q)
 
 cast-sum : tie.Need-cast-sum Inv-loop μ-loop
 cast-sum c = search needs
 
 add-sum : tie.Need-add-sum Inv-loop μ-loop
 add-sum c =
-    let h = open-used (c .before .before .before .before .before .before .before .before .args .image .now) (c .before .before .before .before .before .before .before .before .pre) in
-    let q = whole (chainSound (decode (c .before .before .before .before .before .before .before .before .args .image .now)) (c .before .before .before .before .before .loop .k + 1)) (links (decode (c .before .before .before .before .before .before .before .before .args .image .now)) (c .before .before .before .before .before .loop .k + 1)) (c .before .chain .given .0 .0) (sym (chained-links (decode (c .before .before .before .before .before .before .before .before .args .image .now)) (c .before .before .before .before .before .loop .k + 1)) ∙ sym (c .before .before .before .chain-of .ensures) ∙ c .before .chain .given .1) in
-    omega (arith, c .before .before .before .before .before .before .load-used .ensures, links-most (decode (c .before .before .before .before .before .before .before .before .args .image .now)) (c .before .before .before .before .before .loop .k + 1))
+    let a = c .before .before .before .before .before .before .before .before .args in
+    let l = c .before .before .before .before .before .loop in
+    let h = open-used (a .image .now) (c .before .before .before .before .before .before .before .before .pre) in
+    let q = whole (chainSound (decode (a .image .now)) (l .k + 1)) (links (decode (a .image .now)) (l .k + 1)) (c .before .chain .given .0 .0) (sym (chained-links (decode (a .image .now)) (l .k + 1)) ∙ sym (c .before .before .before .chain-of .ensures) ∙ c .before .chain .given .1) in
+    omega (arith, c .before .before .before .before .before .before .load-used .ensures, links-most (decode (a .image .now)) (l .k + 1))
 
 taken-bit-requires : tie.Need-taken-bit-requires Inv-loop μ-loop
-taken-bit-requires c κs = (c .before .before .before .before .before .before .before .before .pre, (let h = open-used (c .before .before .before .before .before .before .before .before .args .image .now) (c .before .before .before .before .before .before .before .before .pre) in omega (arith, c .before .before .before .before .before .before .load-used .ensures)))
+taken-bit-requires c κs =
+    let p = c .before .before .before .before .before .before .before .before .pre in
+    (p, (let h = open-used (c .before .before .before .before .before .before .before .before .args .image .now) (p) in omega (arith, c .before .before .before .before .before .before .load-used .ensures)))
 
 add-taken : tie.Need-add-taken Inv-loop μ-loop
 add-taken c =
-    let h = open-used (c .before .before .before .before .before .before .before .before .before .args .image .now) (c .before .before .before .before .before .before .before .before .before .pre) in
-    omega (arith, c .before .before .before .before .before .before .before .load-used .ensures, c .taken-bit .ensures, count-more (isTaken (decode (c .before .before .before .before .before .before .before .before .before .args .image .now))) (c .before .before .before .before .before .before .loop .k), count-most (isTaken (decode (c .before .before .before .before .before .before .before .before .before .args .image .now))) (c .before .before .before .before .before .before .loop .k + 1))
+    let a = c .before .before .before .before .before .before .before .before .before .args in
+    let l = c .before .before .before .before .before .before .loop in
+    let h = open-used (a .image .now) (c .before .before .before .before .before .before .before .before .before .pre) in
+    omega (arith, c .before .before .before .before .before .before .before .load-used .ensures, c .taken-bit .ensures, count-more (isTaken (decode (a .image .now))) (l .k), count-most (isTaken (decode (a .image .now))) (l .k + 1))
 
 add-k : tie.Need-add-k Inv-loop μ-loop
 add-k c = search needs
@@ -73,15 +85,16 @@ loop-less c = search needs
 
 loop-again : tie.Need-loop-again Inv-loop μ-loop
 loop-again c =
+    let l = c .before .before .before .before .before .before .loop in
     let w = (decode (c .before .before .before .before .before .before .before .before .before .args .image .now)) in
-    let q = whole (chainSound w (c .before .before .before .before .before .before .loop .k + 1)) (links w (c .before .before .before .before .before .before .loop .k + 1)) (c .before .before .chain .given .0 .0) (sym (chained-links w (c .before .before .before .before .before .before .loop .k + 1)) ∙ sym (c .before .before .before .before .chain-of .ensures) ∙ c .before .before .chain .given .1) in
-    let s = sum-more (links w) (c .before .before .before .before .before .before .loop .k) in
-    let t = count-more (isTaken w) (c .before .before .before .before .before .before .loop .k) in
-    let m = links-most w (c .before .before .before .before .before .before .loop .k + 1) in
+    let q = whole (chainSound w (l .k + 1)) (links w (l .k + 1)) (c .before .before .chain .given .0 .0) (sym (chained-links w (l .k + 1)) ∙ sym (c .before .before .before .before .chain-of .ensures) ∙ c .before .before .chain .given .1) in
+    let s = sum-more (links w) (l .k) in
+    let t = count-more (isTaken w) (l .k) in
+    let m = links-most w (l .k + 1) in
     let b = c .taken-bit .ensures in
-    let i = c .before .before .before .before .before .before .loop .inv in (
+    let i = l .inv in (
       omega arith,
-      all-more (chainSound w) (c .before .before .before .before .before .before .loop .k) (i .1) (q .0),
+      all-more (chainSound w) (l .k) (i .1) (q .0),
       omega arith,
       omega arith,
       omega arith,
@@ -89,8 +102,9 @@ loop-again c =
 
 returns-2 : tie.Need-returns-2 Inv-loop μ-loop
 returns-2 c =
-    let e : c .before .loop .k ≡ c .before .before .load-used .result = omega arith in
-    rw (chains-rule (c .before .before .before .before .args .image .now) (c .before .before .load-used .result) (c .before .before .load-used .ensures), ← e) (pass (c .before .loop .inv .1) (rw (← c .before .loop .inv .2, ← c .before .loop .inv .3)))
+    let l = c .before .loop in
+    let e : l .k ≡ c .before .before .load-used .result = omega arith in
+    rw (chains-rule (c .before .before .before .before .args .image .now) (c .before .before .load-used .result) (c .before .before .load-used .ensures), ← e) (pass (l .inv .1) (rw (← l .inv .2, ← l .inv .3)))
 
 pub chains-fit-spec : {M : Type 1} → statement M
 chains-fit-spec =

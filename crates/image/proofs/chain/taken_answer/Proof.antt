@@ -17,15 +17,17 @@ returns c = rw (sym (c .before .present .ensures) ∙ not-true _ (c .if1 .taken)
 
 load-message-requires : tie.Need-load-message-requires
 load-message-requires c κs =
-    let i = c .before .before .before .args .image .now in
-    let n = c .before .before .before .args .n .0 in
+    let a = c .before .before .before .args in
+    let i = a .image .now in
+    let n = a .n .0 in
     (search needs, present-used i n (sym (c .before .present .ensures) ∙ not-false _ (c .if1 .left)) (open-used i (c .before .before .before .pre)))
 
 returns-2 : tie.Need-returns-2
 unfolding takenAnswer
 returns-2 c =
-    let i = c .before .before .before .before .before .before .before .args .image .now in
-    let n = c .before .before .before .before .before .before .before .args .n .0 in
+    let a = c .before .before .before .before .before .before .before .args in
+    let i = a .image .now in
+    let n = a .n .0 in
     let b = present-used i n (sym (c .before .before .before .before .before .present .ensures) ∙ not-false _ (c .before .before .before .before .if1 .left)) (open-used i (c .before .before .before .before .before .before .before .pre)) in
     let e = c .before .before .before .load-message .ensures ∙ sym (message-decode i n (b)) in
     pass (sym (c .before .before .before .before .before .present .ensures) ∙ not-false _ (c .before .before .before .before .if1 .left)) (rw (← e, ne-eqb _ _ (c .if2 .taken)))
@@ -33,8 +35,9 @@ returns-2 c =
 returns-3 : tie.Need-returns-3
 unfolding takenAnswer
 returns-3 c =
-    let i = c .before .before .before .before .before .before .before .before .before .args .image .now in
-    let n = c .before .before .before .before .before .before .before .before .before .args .n .0 in
+    let a = c .before .before .before .before .before .before .before .before .before .args in
+    let i = a .image .now in
+    let n = a .n .0 in
     let b = present-used i n (sym (c .before .before .before .before .before .before .before .present .ensures) ∙ not-false _ (c .before .before .before .before .before .before .if1 .left)) (open-used i (c .before .before .before .before .before .before .before .before .before .pre)) in
     let e = c .before .before .before .before .before .load-message .ensures ∙ sym (message-decode i n (b)) in
     pass (sym (c .before .before .before .before .before .before .before .present .ensures) ∙ not-false _ (c .before .before .before .before .before .before .if1 .left)) (rw (← e, eq-eqb _ _ (c .before .before .if2 .left), not-true (c .before .before .before .before .before .load-message .result .taken) (c .if3 .taken)))
@@ -42,8 +45,9 @@ returns-3 c =
 returns-4 : tie.Need-returns-4
 unfolding takenAnswer
 returns-4 c =
-    let i = c .before .before .before .before .before .before .before .before .before .before .before .args .image .now in
-    let n = c .before .before .before .before .before .before .before .before .before .before .before .args .n .0 in
+    let a = c .before .before .before .before .before .before .before .before .before .before .before .args in
+    let i = a .image .now in
+    let n = a .n .0 in
     let b = present-used i n (sym (c .before .before .before .before .before .before .before .before .before .present .ensures) ∙ not-false _ (c .before .before .before .before .before .before .before .before .if1 .left)) (open-used i (c .before .before .before .before .before .before .before .before .before .before .before .pre)) in
     let e = c .before .before .before .before .before .before .before .load-message .ensures ∙ sym (message-decode i n (b)) in
     pass (sym (c .before .before .before .before .before .before .before .before .before .present .ensures) ∙ not-false _ (c .before .before .before .before .before .before .before .before .if1 .left)) (rw (← e, eq-eqb _ _ (c .before .before .before .before .if2 .left), not-false (c .before .before .before .before .before .before .before .load-message .result .taken) (c .before .before .if3 .left)))

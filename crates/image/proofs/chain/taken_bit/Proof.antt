@@ -12,8 +12,9 @@ cast-result c = search needs
 
 returns : tie.Need-returns
 returns c =
-    let i = c .before .before .before .args .image .now in
-    let n = c .before .before .before .args .n .0 in
+    let a = c .before .before .before .args in
+    let i = a .image .now in
+    let n = a .n .0 in
     let e = c .before .load-message .ensures ∙ sym (message-decode i n (c .before .before .before .pre .1)) in
     rw e
 

@@ -15,7 +15,9 @@ abbrev μ-loop : tie.MeasureT-loop
 μ-loop image₀ members k₀ image k = 32 - k
 
 loop-holds : tie.Need-loop-holds Inv-loop μ-loop
-loop-holds c = (omega arith, sym (seeded-start (c .before .args .image .now) (c .before .args .members)), c .before .pre)
+loop-holds c =
+    let a = c .before .args in
+    (omega arith, sym (seeded-start (a .image .now) (a .members)), c .before .pre)
 
 add-fresh-server : tie.Need-add-fresh-server Inv-loop μ-loop
 add-fresh-server c = search needs
@@ -36,19 +38,23 @@ loop-less : tie.Need-loop-less Inv-loop μ-loop
 loop-less c = search needs
 
 loop-again : tie.Need-loop-again Inv-loop μ-loop
-loop-again c = (
-  omega arith,
-  rw (seeded-more (c .before .before .before .before .before .before .before .before .args .image .now) (c .before .before .before .before .before .before .before .before .args .members) (c .before .before .before .before .before .before .loop .k), ← c .before .before .before .before .before .before .loop .inv .1, ← c .before .before .before .before .fresh-server .ensures) (c .before .before .store-server .ensures),
-  search needs,
-)
+loop-again c =
+    let a = c .before .before .before .before .before .before .before .before .args in
+    let l = c .before .before .before .before .before .before .loop in (
+      omega arith,
+      rw (seeded-more (a .image .now) (a .members) (l .k), ← l .inv .1, ← c .before .before .before .before .fresh-server .ensures) (c .before .before .store-server .ensures),
+      search needs,
+    )
 
 same-length : tie.Need-same-length Inv-loop μ-loop
 same-length c = search needs
 
 returns : tie.Need-returns Inv-loop μ-loop
 returns c =
-    let e : c .before .loop .k ≡ 32 = omega arith in
-    c .before .loop .inv .1 ∙ ap (seeded (c .before .before .before .args .image .now) (c .before .before .before .args .members)) e
+    let a = c .before .before .before .args in
+    let l = c .before .loop in
+    let e : l .k ≡ 32 = omega arith in
+    l .inv .1 ∙ ap (seeded (a .image .now) (a .members)) e
 
 pub store-servers-spec : {M : Type 1} → statement M
 store-servers-spec =

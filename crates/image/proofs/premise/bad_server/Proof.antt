@@ -13,8 +13,10 @@ load-server-requires c κs = search needs
 returns : tie.Need-returns
 unfolding bad
 returns c =
-    let i = c .before .before .before .before .args .image .now in
-    rw (server-decode i (c .before .before .before .before .args .s .0) (c .before .before .before .before .pre .3) (c .before .before .before .before .pre .4), ← c .before .before .load-server .ensures, not-true (c .before .before .load-server .result .faulty) (c .if1 .taken))
+    let a = c .before .before .before .before .args in
+    let h = c .before .before .before .before .pre in
+    let i = a .image .now in
+    rw (server-decode i (a .s .0) (h .3) (h .4), ← c .before .before .load-server .ensures, not-true (c .before .before .load-server .result .faulty) (c .if1 .taken))
 
 holds-requires : tie.Need-holds-requires
 holds-requires c κs = search needs
@@ -25,8 +27,10 @@ cast-result c = search needs
 returns-2 : tie.Need-returns-2
 unfolding bad
 returns-2 c =
-    let i = c .before .before .before .before .before .args .image .now in
-    rw (server-decode i (c .before .before .before .before .before .args .s .0) (c .before .before .before .before .before .pre .3) (c .before .before .before .before .before .pre .4), ← c .before .before .before .load-server .ensures, not-false (c .before .before .before .load-server .result .faulty) (c .before .if1 .left)) (ap bit (c .holds .ensures))
+    let a = c .before .before .before .before .before .args in
+    let h = c .before .before .before .before .before .pre in
+    let i = a .image .now in
+    rw (server-decode i (a .s .0) (h .3) (h .4), ← c .before .before .before .load-server .ensures, not-false (c .before .before .before .load-server .result .faulty) (c .before .if1 .left)) (ap bit (c .holds .ensures))
 
 pub bad-server-spec : {M : Type 1} → statement M
 bad-server-spec =

@@ -16,16 +16,23 @@ abbrev μ-loop : tie.MeasureT-loop
 μ-loop image t n₀ k₀ n k = 32 - k
 
 loop-holds : tie.Need-loop-holds Inv-loop μ-loop
-loop-holds c = (omega arith, sym (count-start (bad (decode (c .before .args .image .now)) (c .before .args .t))))
+loop-holds c =
+    let a = c .before .args in
+    (omega arith, sym (count-start (bad (decode (a .image .now)) (a .t))))
 
 add-t7 : tie.Need-add-t7 Inv-loop μ-loop
 add-t7 c = search needs
 
 bad-server-requires : tie.Need-bad-server-requires Inv-loop μ-loop
-bad-server-requires c κs = (c .before .before .before .pre .0, c .before .before .before .pre .1, c .before .before .before .pre .2, omega arith, omega arith)
+bad-server-requires c κs =
+    let h = c .before .before .before .pre in
+    (h .0, h .1, h .2, omega arith, omega arith)
 
 add-n : tie.Need-add-n Inv-loop μ-loop
-add-n c = omega (arith, count-most (bad (decode (c .before .before .before .before .args .image .now)) (c .before .before .before .before .args .t)) (c .before .before .loop .k + 1), count-more (bad (decode (c .before .before .before .before .args .image .now)) (c .before .before .before .before .args .t)) (c .before .before .loop .k), c .bad-server .ensures)
+add-n c =
+    let a = c .before .before .before .before .args in
+    let l = c .before .before .loop in
+    omega (arith, count-most (bad (decode (a .image .now)) (a .t)) (l .k + 1), count-more (bad (decode (a .image .now)) (a .t)) (l .k), c .bad-server .ensures)
 
 add-k : tie.Need-add-k Inv-loop μ-loop
 add-k c = search needs
@@ -34,12 +41,17 @@ loop-less : tie.Need-loop-less Inv-loop μ-loop
 loop-less c = search needs
 
 loop-again : tie.Need-loop-again Inv-loop μ-loop
-loop-again c = (omega arith, sym (count-more (bad (decode (c .before .before .before .before .args .image .now)) (c .before .before .before .before .args .t)) (c .before .before .loop .k) ∙ (let e = c .before .before .loop .inv .1 in let f = c .bad-server .ensures in omega arith)))
+loop-again c =
+    let a = c .before .before .before .before .args in
+    let l = c .before .before .loop in
+    (omega arith, sym (count-more (bad (decode (a .image .now)) (a .t)) (l .k) ∙ (let e = l .inv .1 in let f = c .bad-server .ensures in omega arith)))
 
 returns : tie.Need-returns Inv-loop μ-loop
 returns c =
-    let e : c .before .loop .k ≡ 32 = omega arith in
-    c .before .loop .inv .1 ∙ ap (countTo (bad (decode (c .before .before .before .args .image .now)) (c .before .before .before .args .t))) e
+    let a = c .before .before .before .args in
+    let l = c .before .loop in
+    let e : l .k ≡ 32 = omega arith in
+    l .inv .1 ∙ ap (countTo (bad (decode (a .image .now)) (a .t))) e
 
 pub bad-servers-spec : {M : Type 1} → statement M
 bad-servers-spec =

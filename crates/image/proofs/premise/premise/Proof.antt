@@ -24,8 +24,9 @@ load-administrator-requires c κs = search needs
 
 premise-holds-requires : tie.Need-premise-holds-requires
 premise-holds-requires c κs =
-    let o = readable-open (c .before .before .before .before .before .before .args .image .now) (sym (c .before .before .before .readable .ensures) ∙ not-false _ (c .before .before .if2 .left)) in
-    let h = open-high (c .before .before .before .before .before .before .args .image .now) o in
+    let v = c .before .before .before .before .before .before .args in
+    let o = readable-open (v .image .now) (sym (c .before .before .before .readable .ensures) ∙ not-false _ (c .before .before .if2 .left)) in
+    let h = open-high (v .image .now) o in
     (o .size, rw (c .before .load-administrator .ensures) h, ap (λ (a : Administrator). a .newest .0) (c .before .load-administrator .ensures))
 
 returns-3 : tie.Need-returns-3

@@ -28,7 +28,9 @@ view-holds-requires : tie.Need-view-holds-requires Inv-loop μ-loop
 view-holds-requires c κs = (c .before .before .before .pre .0, omega arith, omega arith)
 
 returns : tie.Need-returns Inv-loop μ-loop
-returns c = rw (premise-rule (c .before .before .before .before .before .args .image .now) (c .before .before .before .before .before .args .newest) (c .before .before .before .before .before .pre .2)) (sym (all-fails (within (decode (c .before .before .before .before .before .args .image .now))) (c .before .before .before .before .before .args .newest) (c .before .before .before .loop .k + 1) (omega arith) (omega arith) (sym (c .before .view-holds .ensures) ∙ not-true _ (c .if1 .taken))))
+returns c =
+    let a = c .before .before .before .before .before .args in
+    rw (premise-rule (a .image .now) (a .newest) (c .before .before .before .before .before .pre .2)) (sym (all-fails (within (decode (a .image .now))) (a .newest) (c .before .before .before .loop .k + 1) (omega arith) (omega arith) (sym (c .before .view-holds .ensures) ∙ not-true _ (c .if1 .taken))))
 
 add-k : tie.Need-add-k Inv-loop μ-loop
 add-k c = search needs
@@ -37,12 +39,16 @@ loop-less : tie.Need-loop-less Inv-loop μ-loop
 loop-less c = search needs
 
 loop-again : tie.Need-loop-again Inv-loop μ-loop
-loop-again c = (omega arith, all-more (within (decode (c .before .before .before .before .before .args .image .now))) (c .before .before .before .loop .k) (c .before .before .before .loop .inv .1) (sym (c .before .view-holds .ensures) ∙ not-false _ (c .if1 .left)))
+loop-again c =
+    let l = c .before .before .before .loop in
+    (omega arith, all-more (within (decode (c .before .before .before .before .before .args .image .now))) (l .k) (l .inv .1) (sym (c .before .view-holds .ensures) ∙ not-false _ (c .if1 .left)))
 
 returns-2 : tie.Need-returns-2 Inv-loop μ-loop
 returns-2 c =
-    let e : c .before .loop .k ≡ c .before .before .before .args .newest = omega arith in
-    rw (premise-rule (c .before .before .before .args .image .now) (c .before .before .before .args .newest) (c .before .before .before .pre .2), ← e) (sym (c .before .loop .inv .1))
+    let a = c .before .before .before .args in
+    let l = c .before .loop in
+    let e : l .k ≡ a .newest = omega arith in
+    rw (premise-rule (a .image .now) (a .newest) (c .before .before .before .pre .2), ← e) (sym (l .inv .1))
 
 pub premise-holds-spec : {M : Type 1} → statement M
 premise-holds-spec =

@@ -13,7 +13,10 @@ cast-result : tie.Need-cast-result
 cast-result c = search needs
 
 returns : tie.Need-returns
-returns c = rw (view-decode (c .before .before .before .before .args .image .now) (c .before .before .before .before .args .t) (c .before .before .before .before .pre .1) (c .before .before .before .before .pre .2), ← c .before .load-view .ensures, ← c .before .before .bad-servers .ensures)
+returns c =
+    let a = c .before .before .before .before .args in
+    let h = c .before .before .before .before .pre in
+    rw (view-decode (a .image .now) (a .t) (h .1) (h .2), ← c .before .load-view .ensures, ← c .before .before .bad-servers .ensures)
 
 pub view-holds-spec : {M : Type 1} → statement M
 view-holds-spec = tie.close (tie.spec bad-servers-requires load-view-requires cast-result returns)

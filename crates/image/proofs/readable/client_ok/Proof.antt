@@ -36,8 +36,9 @@ client-plain-requires c κs = search needs
 returns : tie.Need-returns
 unfolding clientOk
 returns c =
-    let i = c .before .before .before .before .args .image .now in
-    let q = c .before .client-plain .ensures ∙ ap clientPlain (span i (clientPlace (c .before .before .before .before .args .c)) clientWidth) in
+    let a = c .before .before .before .before .args in
+    let i = a .image .now in
+    let q = c .before .client-plain .ensures ∙ ap clientPlain (span i (clientPlace (a .c)) clientWidth) in
     rw (sym q ∙ not-true _ (c .if1 .taken))
 
 client-fits-requires : tie.Need-client-fits-requires
@@ -46,8 +47,9 @@ client-fits-requires c κs = search needs
 returns-2 : tie.Need-returns-2
 unfolding clientOk
 returns-2 c =
-    let i = c .before .before .before .before .before .args .image .now in
-    let q = c .before .before .client-plain .ensures ∙ ap clientPlain (span i (clientPlace (c .before .before .before .before .before .args .c)) clientWidth) in
+    let a = c .before .before .before .before .before .args in
+    let i = a .image .now in
+    let q = c .before .before .client-plain .ensures ∙ ap clientPlain (span i (clientPlace (a .c)) clientWidth) in
     pass (sym q ∙ not-false _ (c .before .if1 .left)) (c .client-fits .ensures)
 
 pub client-ok-spec : {M : Type 1} → statement M

@@ -35,12 +35,15 @@ loop-less : tie.Need-loop-less Inv-loop μ-loop
 loop-less c = search needs
 
 loop-again : tie.Need-loop-again Inv-loop μ-loop
-loop-again c = (omega arith, all-more (clientOk (c .before .before .before .before .before .args .image .now)) (c .before .before .before .loop .k) (c .before .before .before .loop .inv .1) (sym (c .before .client-ok .ensures) ∙ not-false _ (c .if1 .left)))
+loop-again c =
+    let l = c .before .before .before .loop in
+    (omega arith, all-more (clientOk (c .before .before .before .before .before .args .image .now)) (l .k) (l .inv .1) (sym (c .before .client-ok .ensures) ∙ not-false _ (c .if1 .left)))
 
 returns-2 : tie.Need-returns-2 Inv-loop μ-loop
 returns-2 c =
-    let e : c .before .loop .k ≡ 16 = omega arith in
-    sym (ap (allTo (clientOk (c .before .before .before .args .image .now))) (sym e) ∙ c .before .loop .inv .1)
+    let l = c .before .loop in
+    let e : l .k ≡ 16 = omega arith in
+    sym (ap (allTo (clientOk (c .before .before .before .args .image .now))) (sym e) ∙ l .inv .1)
 
 pub clients-ok-spec : {M : Type 1} → statement M
 clients-ok-spec =

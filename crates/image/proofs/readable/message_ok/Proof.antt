@@ -36,8 +36,9 @@ message-plain-requires c κs = search needs
 returns : tie.Need-returns
 unfolding messageOk
 returns c =
-    let i = c .before .before .before .before .args .image .now in
-    let q = c .before .message-plain .ensures ∙ ap messagePlain (span i (messagePlace (c .before .before .before .before .args .n .0)) messageWidth) in
+    let a = c .before .before .before .before .args in
+    let i = a .image .now in
+    let q = c .before .message-plain .ensures ∙ ap messagePlain (span i (messagePlace (a .n .0)) messageWidth) in
     rw (sym q ∙ not-true _ (c .if1 .taken))
 
 message-fits-requires : tie.Need-message-fits-requires
@@ -46,8 +47,9 @@ message-fits-requires c κs = search needs
 returns-2 : tie.Need-returns-2
 unfolding messageOk
 returns-2 c =
-    let i = c .before .before .before .before .before .args .image .now in
-    let q = c .before .before .message-plain .ensures ∙ ap messagePlain (span i (messagePlace (c .before .before .before .before .before .args .n .0)) messageWidth) in
+    let a = c .before .before .before .before .before .args in
+    let i = a .image .now in
+    let q = c .before .before .message-plain .ensures ∙ ap messagePlain (span i (messagePlace (a .n .0)) messageWidth) in
     pass (sym q ∙ not-false _ (c .before .if1 .left)) (c .message-fits .ensures)
 
 pub message-ok-spec : {M : Type 1} → statement M

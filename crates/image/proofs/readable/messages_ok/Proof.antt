@@ -35,7 +35,9 @@ add-t8 : tie.Need-add-t8 Inv-loop μ-loop
 add-t8 c = search needs
 
 message-ok-requires : tie.Need-message-ok-requires Inv-loop μ-loop
-message-ok-requires c κs = (c .before .before .before .before .before .before .pre .0, omega arith, c .before .before .load-used .ensures, c .before .before .before .before .before .before .pre .1)
+message-ok-requires c κs =
+    let h = c .before .before .before .before .before .before .pre in
+    (h .0, omega arith, c .before .before .load-used .ensures, h .1)
 
 returns-2 : tie.Need-returns-2 Inv-loop μ-loop
 unfolding messagesOk
@@ -48,13 +50,16 @@ loop-less : tie.Need-loop-less Inv-loop μ-loop
 loop-less c = search needs
 
 loop-again : tie.Need-loop-again Inv-loop μ-loop
-loop-again c = (omega arith, all-more (messageOk (c .before .before .before .before .before .before .before .before .args .image .now)) (c .before .before .before .loop .k) (c .before .before .before .loop .inv .1) (sym (c .before .message-ok .ensures) ∙ not-false _ (c .if2 .left)))
+loop-again c =
+    let l = c .before .before .before .loop in
+    (omega arith, all-more (messageOk (c .before .before .before .before .before .before .before .before .args .image .now)) (l .k) (l .inv .1) (sym (c .before .message-ok .ensures) ∙ not-false _ (c .if2 .left)))
 
 returns-3 : tie.Need-returns-3 Inv-loop μ-loop
 unfolding messagesOk
 returns-3 c =
-    let e : c .before .loop .k ≡ 1023 = omega arith in
-    pass (sym (c .before .before .before .before .first-ok .ensures) ∙ not-false _ (c .before .before .before .if1 .left)) (sym (ap (allTo (messageOk (c .before .before .before .before .before .before .args .image .now))) (sym e) ∙ c .before .loop .inv .1))
+    let l = c .before .loop in
+    let e : l .k ≡ 1023 = omega arith in
+    pass (sym (c .before .before .before .before .first-ok .ensures) ∙ not-false _ (c .before .before .before .if1 .left)) (sym (ap (allTo (messageOk (c .before .before .before .before .before .before .args .image .now))) (sym e) ∙ l .inv .1))
 
 pub messages-ok-spec : {M : Type 1} → statement M
 messages-ok-spec =

@@ -40,22 +40,27 @@ server-plain-requires c κs = search needs
 returns : tie.Need-returns
 unfolding serverOk
 returns c =
-    let i = c .before .before .before .before .args .image .now in
-    let q = c .before .server-plain .ensures ∙ ap serverPlain (span i (serverPlace (c .before .before .before .before .args .s .0)) serverWidth) in
+    let a = c .before .before .before .before .args in
+    let i = a .image .now in
+    let q = c .before .server-plain .ensures ∙ ap serverPlain (span i (serverPlace (a .s .0)) serverWidth) in
     rw (sym q ∙ not-true _ (c .if1 .taken))
 
 load-server-requires : tie.Need-load-server-requires
 load-server-requires c κs = search needs
 
 server-fits-requires : tie.Need-server-fits-requires
-server-fits-requires c κs = let h = open-high (c .before .before .before .before .before .args .image .now) (c .before .before .before .before .before .pre .0) in omega (arith, c .before .before .before .before .before .pre .3)
+server-fits-requires c κs =
+    let p = c .before .before .before .before .before .pre in
+    let h = open-high (c .before .before .before .before .before .args .image .now) (p .0) in omega (arith, p .3)
 
 returns-2 : tie.Need-returns-2
 unfolding serverOk
 returns-2 c =
-    let i = c .before .before .before .before .before .before .args .image .now in
-    let q = c .before .before .before .server-plain .ensures ∙ ap serverPlain (span i (serverPlace (c .before .before .before .before .before .before .args .s .0)) serverWidth) in
-    pass (sym q ∙ not-false _ (c .before .before .if1 .left)) (rw (server-rule i (c .before .before .before .before .before .before .args .s .0) (c .before .before .before .before .before .before .pre .1) (c .before .before .before .before .before .before .pre .2), ← c .before .before .before .before .before .before .pre .3, ← c .before .load-server .ensures) (c .server-fits .ensures))
+    let a = c .before .before .before .before .before .before .args in
+    let h = c .before .before .before .before .before .before .pre in
+    let i = a .image .now in
+    let q = c .before .before .before .server-plain .ensures ∙ ap serverPlain (span i (serverPlace (a .s .0)) serverWidth) in
+    pass (sym q ∙ not-false _ (c .before .before .if1 .left)) (rw (server-rule i (a .s .0) (h .1) (h .2), ← h .3, ← c .before .load-server .ensures) (c .server-fits .ensures))
 
 pub server-ok-spec : {M : Type 1} → statement M
 server-ok-spec =

@@ -24,7 +24,9 @@ add-t5 : tie.Need-add-t5 Inv-loop μ-loop
 add-t5 c = search needs
 
 server-ok-requires : tie.Need-server-ok-requires Inv-loop μ-loop
-server-ok-requires c κs = (c .before .before .before .pre .0, omega arith, omega arith, c .before .before .before .pre .1)
+server-ok-requires c κs =
+    let h = c .before .before .before .pre in
+    (h .0, omega arith, omega arith, h .1)
 
 returns : tie.Need-returns Inv-loop μ-loop
 returns c = sym (all-fails (serverOk (c .before .before .before .before .before .args .image .now)) 32 (c .before .before .before .loop .k + 1) (omega arith) (omega arith) (sym (c .before .server-ok .ensures) ∙ not-true _ (c .if1 .taken)))
@@ -36,12 +38,15 @@ loop-less : tie.Need-loop-less Inv-loop μ-loop
 loop-less c = search needs
 
 loop-again : tie.Need-loop-again Inv-loop μ-loop
-loop-again c = (omega arith, all-more (serverOk (c .before .before .before .before .before .args .image .now)) (c .before .before .before .loop .k) (c .before .before .before .loop .inv .1) (sym (c .before .server-ok .ensures) ∙ not-false _ (c .if1 .left)))
+loop-again c =
+    let l = c .before .before .before .loop in
+    (omega arith, all-more (serverOk (c .before .before .before .before .before .args .image .now)) (l .k) (l .inv .1) (sym (c .before .server-ok .ensures) ∙ not-false _ (c .if1 .left)))
 
 returns-2 : tie.Need-returns-2 Inv-loop μ-loop
 returns-2 c =
-    let e : c .before .loop .k ≡ 32 = omega arith in
-    sym (ap (allTo (serverOk (c .before .before .before .args .image .now))) (sym e) ∙ c .before .loop .inv .1)
+    let l = c .before .loop in
+    let e : l .k ≡ 32 = omega arith in
+    sym (ap (allTo (serverOk (c .before .before .before .args .image .now))) (sym e) ∙ l .inv .1)
 
 pub servers-ok-spec : {M : Type 1} → statement M
 servers-ok-spec =

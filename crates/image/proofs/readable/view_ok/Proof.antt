@@ -39,8 +39,9 @@ view-plain-requires c κs = search needs
 returns : tie.Need-returns
 unfolding viewOk
 returns c =
-    let i = c .before .before .before .before .args .image .now in
-    let q = c .before .view-plain .ensures ∙ ap viewPlain (span i (viewPlace (c .before .before .before .before .args .t .0)) viewWidth) in
+    let a = c .before .before .before .before .args in
+    let i = a .image .now in
+    let q = c .before .view-plain .ensures ∙ ap viewPlain (span i (viewPlace (a .t .0)) viewWidth) in
     rw (sym q ∙ not-true _ (c .if1 .taken))
 
 load-view-requires : tie.Need-load-view-requires
@@ -52,9 +53,11 @@ view-fits-requires c κs = search needs
 returns-2 : tie.Need-returns-2
 unfolding viewOk
 returns-2 c =
-    let i = c .before .before .before .before .before .before .args .image .now in
-    let q = c .before .before .before .view-plain .ensures ∙ ap viewPlain (span i (viewPlace (c .before .before .before .before .before .before .args .t .0)) viewWidth) in
-    pass (sym q ∙ not-false _ (c .before .before .if1 .left)) (rw (view-rule i (c .before .before .before .before .before .before .args .t .0) (c .before .before .before .before .before .before .pre .1) (c .before .before .before .before .before .before .pre .2), ← c .before .before .before .before .before .before .pre .3, ← c .before .load-view .ensures) (c .view-fits .ensures))
+    let a = c .before .before .before .before .before .before .args in
+    let h = c .before .before .before .before .before .before .pre in
+    let i = a .image .now in
+    let q = c .before .before .before .view-plain .ensures ∙ ap viewPlain (span i (viewPlace (a .t .0)) viewWidth) in
+    pass (sym q ∙ not-false _ (c .before .before .if1 .left)) (rw (view-rule i (a .t .0) (h .1) (h .2), ← h .3, ← c .before .load-view .ensures) (c .view-fits .ensures))
 
 pub view-ok-spec : {M : Type 1} → statement M
 view-ok-spec =

@@ -18,7 +18,9 @@ abbrev μ-loop : tie.MeasureT-loop
 μ-loop image last k₀ k = 32 - k
 
 last-of-requires : tie.Need-last-of-requires Inv-loop μ-loop
-last-of-requires c κs = let h = open-high (c .before .args .image .now) (c .before .pre .0) in rw (c .before .pre .1) h
+last-of-requires c κs =
+    let p = c .before .pre in
+    let h = open-high (c .before .args .image .now) (p .0) in rw (p .1) h
 
 loop-holds : tie.Need-loop-holds Inv-loop μ-loop
 loop-holds c = (omega arith, all-start (viewOk (c .before .before .args .image .now)))
@@ -27,7 +29,9 @@ add-t6 : tie.Need-add-t6 Inv-loop μ-loop
 add-t6 c = search needs
 
 view-ok-requires : tie.Need-view-ok-requires Inv-loop μ-loop
-view-ok-requires c κs = (c .before .before .before .before .pre .0 .size, omega arith, omega arith, c .before .before .last-of .ensures ∙ ap lastOf (c .before .before .before .before .pre .1))
+view-ok-requires c κs =
+    let h = c .before .before .before .before .pre in
+    (h .0 .size, omega arith, omega arith, c .before .before .last-of .ensures ∙ ap lastOf (h .1))
 
 returns : tie.Need-returns Inv-loop μ-loop
 returns c = sym (all-fails (viewOk (c .before .before .before .before .before .before .args .image .now)) 32 (c .before .before .before .loop .k + 1) (omega arith) (omega arith) (sym (c .before .view-ok .ensures) ∙ not-true _ (c .if1 .taken)))
@@ -39,12 +43,15 @@ loop-less : tie.Need-loop-less Inv-loop μ-loop
 loop-less c = search needs
 
 loop-again : tie.Need-loop-again Inv-loop μ-loop
-loop-again c = (omega arith, all-more (viewOk (c .before .before .before .before .before .before .args .image .now)) (c .before .before .before .loop .k) (c .before .before .before .loop .inv .1) (sym (c .before .view-ok .ensures) ∙ not-false _ (c .if1 .left)))
+loop-again c =
+    let l = c .before .before .before .loop in
+    (omega arith, all-more (viewOk (c .before .before .before .before .before .before .args .image .now)) (l .k) (l .inv .1) (sym (c .before .view-ok .ensures) ∙ not-false _ (c .if1 .left)))
 
 returns-2 : tie.Need-returns-2 Inv-loop μ-loop
 returns-2 c =
-    let e : c .before .loop .k ≡ 32 = omega arith in
-    sym (ap (allTo (viewOk (c .before .before .before .before .args .image .now))) (sym e) ∙ c .before .loop .inv .1)
+    let l = c .before .loop in
+    let e : l .k ≡ 32 = omega arith in
+    sym (ap (allTo (viewOk (c .before .before .before .before .args .image .now))) (sym e) ∙ l .inv .1)
 
 pub views-ok-spec : {M : Type 1} → statement M
 views-ok-spec =

@@ -14,9 +14,11 @@ entry-fits-requires c κs = search needs
 
 returns : tie.Need-returns
 returns c =
-    let i = c .before .before .before .before .before .args .image .now in
-    let n = c .before .before .before .before .before .args .c in
-    let r = client-rule i n (c .before .before .before .before .before .pre .1) (c .before .before .before .before .before .pre .2) in
+    let a = c .before .before .before .before .before .args in
+    let h = c .before .before .before .before .before .pre in
+    let i = a .image .now in
+    let n = a .c in
+    let r = client-rule i n (h .1) (h .2) in
     rw (r, ← c .before .before .before .load-client .ensures) (rw (sym (c .before .entry-fits .ensures) ∙ not-true _ (c .if1 .taken)))
 
 phase-fits-requires : tie.Need-phase-fits-requires
@@ -24,9 +26,11 @@ phase-fits-requires c κs = search needs
 
 returns-2 : tie.Need-returns-2
 returns-2 c =
-    let i = c .before .before .before .before .before .before .args .image .now in
-    let n = c .before .before .before .before .before .before .args .c in
-    let r = client-rule i n (c .before .before .before .before .before .before .pre .1) (c .before .before .before .before .before .before .pre .2) in
+    let a = c .before .before .before .before .before .before .args in
+    let h = c .before .before .before .before .before .before .pre in
+    let i = a .image .now in
+    let n = a .c in
+    let r = client-rule i n (h .1) (h .2) in
     rw (r, ← c .before .before .before .before .load-client .ensures) (pass (sym (c .before .before .entry-fits .ensures) ∙ not-false _ (c .before .if1 .left)) (c .phase-fits .ensures))
 
 pub client-fits-spec : {M : Type 1} → statement M

@@ -17,15 +17,17 @@ returns c = rw (sym (c .before .present .ensures) ∙ not-true _ (c .if1 .taken)
 
 load-message-requires : tie.Need-load-message-requires
 load-message-requires c κs =
-    let i = c .before .before .before .args .image .now in
-    let n = c .before .before .before .args .n .0 in
+    let a = c .before .before .before .args in
+    let i = a .image .now in
+    let n = a .n .0 in
     (search needs, present-used i n (sym (c .before .present .ensures) ∙ not-false _ (c .if1 .left)) (search needs))
 
 returns-2 : tie.Need-returns-2
 unfolding isSent
 returns-2 c =
-    let i = c .before .before .before .before .before .before .args .image .now in
-    let n = c .before .before .before .before .before .before .args .n .0 in
+    let a = c .before .before .before .before .before .before .args in
+    let i = a .image .now in
+    let n = a .n .0 in
     let b = present-used i n (sym (c .before .before .before .before .present .ensures) ∙ not-false _ (c .before .before .before .if1 .left)) (search needs) in
     let e = c .before .before .load-message .ensures ∙ sym (message-decode i n (b)) in
     pass (sym (c .before .before .before .before .present .ensures) ∙ not-false _ (c .before .before .before .if1 .left)) (rw (← e, ne-eqb _ _ (c .if2 .taken)))
@@ -33,8 +35,9 @@ returns-2 c =
 returns-3 : tie.Need-returns-3
 unfolding isSent
 returns-3 c =
-    let i = c .before .before .before .before .before .before .before .args .image .now in
-    let n = c .before .before .before .before .before .before .before .args .n .0 in
+    let a = c .before .before .before .before .before .before .before .args in
+    let i = a .image .now in
+    let n = a .n .0 in
     let b = present-used i n (sym (c .before .before .before .before .before .present .ensures) ∙ not-false _ (c .before .before .before .before .if1 .left)) (search needs) in
     let e = c .before .before .before .load-message .ensures ∙ sym (message-decode i n (b)) in
     pass (sym (c .before .before .before .before .before .present .ensures) ∙ not-false _ (c .before .before .before .before .if1 .left)) (rw (← e) (pass (eq-eqb _ _ (c .before .if2 .left)) refl))

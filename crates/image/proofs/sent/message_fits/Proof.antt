@@ -12,9 +12,11 @@ sent-fits-requires c κs = search needs
 
 returns : tie.Need-returns
 returns c =
-    let i = c .before .before .before .before .before .args .image .now in
-    let n = c .before .before .before .before .before .args .n .0 in
-    let r = beyond-rule i (c .before .before .before .before .before .args .used) n (c .before .before .before .before .before .pre .2) (c .before .before .before .before .before .pre .1) in
+    let a = c .before .before .before .before .before .args in
+    let h = c .before .before .before .before .before .pre in
+    let i = a .image .now in
+    let n = a .n .0 in
+    let r = beyond-rule i (a .used) n (h .2) (h .1) in
     rw (r, le-leb _ _ (c .before .if1 .taken), ← c .before .before .before .load-message .ensures) (c .sent-fits .ensures)
 
 zero-message-requires : tie.Need-zero-message-requires
@@ -22,9 +24,11 @@ zero-message-requires c κs = search needs
 
 returns-2 : tie.Need-returns-2
 returns-2 c =
-    let i = c .before .before .before .before .before .args .image .now in
-    let n = c .before .before .before .before .before .args .n .0 in
-    let r = beyond-rule i (c .before .before .before .before .before .args .used) n (c .before .before .before .before .before .pre .2) (c .before .before .before .before .before .pre .1) in
+    let a = c .before .before .before .before .before .args in
+    let h = c .before .before .before .before .before .pre in
+    let i = a .image .now in
+    let n = a .n .0 in
+    let r = beyond-rule i (a .used) n (h .2) (h .1) in
     rw (r, lt-leb _ _ (c .before .if1 .left), ← c .before .before .before .load-message .ensures) (c .zero-message .ensures)
 
 pub message-fits-spec : {M : Type 1} → statement M

@@ -12,22 +12,25 @@ present-requires c κs = search needs
 
 returns : tie.Need-returns
 returns c =
-    let i = c .before .before .before .before .before .before .args .image .now in
-    let m = c .before .before .before .before .before .before .args .m in
+    let a = c .before .before .before .before .before .before .args in
+    let i = a .image .now in
+    let m = a .m in
     let n = m .request .0 in
     rw (eq-eqb _ _ (c .before .before .if1 .taken)) (rw (sym (c .before .present .ensures) ∙ not-true _ (c .if2 .taken)))
 
 load-message-requires : tie.Need-load-message-requires
 load-message-requires c κs =
-    let i = c .before .before .before .before .before .before .args .image .now in
-    let m = c .before .before .before .before .before .before .args .m in
+    let a = c .before .before .before .before .before .before .args in
+    let i = a .image .now in
+    let m = a .m in
     let n = m .request .0 in
     (search needs, present-used i n (sym (c .before .present .ensures) ∙ not-false _ (c .if2 .left)) (open-used i (c .before .before .before .before .before .before .pre)))
 
 returns-2 : tie.Need-returns-2
 returns-2 c =
-    let i = c .before .before .before .before .before .before .before .before .before .args .image .now in
-    let m = c .before .before .before .before .before .before .before .before .before .args .m in
+    let a = c .before .before .before .before .before .before .before .before .before .args in
+    let i = a .image .now in
+    let m = a .m in
     let n = m .request .0 in
     let b = present-used i n (sym (c .before .before .before .before .present .ensures) ∙ not-false _ (c .before .before .before .if2 .left)) (open-used i (c .before .before .before .before .before .before .before .before .before .pre)) in
     let e = c .before .before .load-message .ensures ∙ sym (message-decode i n (b)) in
@@ -35,8 +38,9 @@ returns-2 c =
 
 returns-3 : tie.Need-returns-3
 returns-3 c =
-    let i = c .before .before .before .before .before .before .before .before .before .before .args .image .now in
-    let m = c .before .before .before .before .before .before .before .before .before .before .args .m in
+    let a = c .before .before .before .before .before .before .before .before .before .before .args in
+    let i = a .image .now in
+    let m = a .m in
     let n = m .request .0 in
     let b = present-used i n (sym (c .before .before .before .before .before .present .ensures) ∙ not-false _ (c .before .before .before .before .if2 .left)) (open-used i (c .before .before .before .before .before .before .before .before .before .before .pre)) in
     let e = c .before .before .before .load-message .ensures ∙ sym (message-decode i n (b)) in

@@ -31,9 +31,10 @@ tag-fits-requires c κs = search needs
 returns-4 : tie.Need-returns-4
 unfolding sentFits
 returns-4 c =
+    let a = c .before .before .before .before .before .before .before .before .before .before .before .args in
     pass (join (le-leb _ _ (c .before .before .before .before .before .before .if1 .left)) (le-leb _ _ (c .before .before .before .before .if2 .left)))
     (pass (sym (c .before .before .before .sender-fits .ensures) ∙ not-false _ (c .before .before .if3 .left))
-    (rw (sym (c .before .tag-fits .ensures ∙ tag-rule (c .before .before .before .before .before .before .before .before .before .before .before .args .image .now) (c .before .before .before .before .before .before .before .before .before .before .before .args .newest) (c .before .before .before .before .before .before .before .before .before .before .before .args .m .kind) (c .before .before .before .before .before .before .before .before .before .before .before .args .m .view .0) (c .before .before .before .before .before .before .before .before .before .before .before .pre .1)) ∙ not-true _ (c .if4 .taken))))
+    (rw (sym (c .before .tag-fits .ensures ∙ tag-rule (a .image .now) (a .newest) (a .m .kind) (a .m .view .0) (c .before .before .before .before .before .before .before .before .before .before .before .pre .1)) ∙ not-true _ (c .if4 .taken))))
 
 request-fits-requires : tie.Need-request-fits-requires
 request-fits-requires c κs = search needs
@@ -41,9 +42,10 @@ request-fits-requires c κs = search needs
 returns-5 : tie.Need-returns-5
 unfolding sentFits
 returns-5 c =
+    let a = c .before .before .before .before .before .before .before .before .before .before .before .before .before .args in
     pass (join (le-leb _ _ (c .before .before .before .before .before .before .before .before .if1 .left)) (le-leb _ _ (c .before .before .before .before .before .before .if2 .left)))
     (pass (sym (c .before .before .before .before .before .sender-fits .ensures) ∙ not-false _ (c .before .before .before .before .if3 .left))
-    (pass (sym (c .before .before .before .tag-fits .ensures ∙ tag-rule (c .before .before .before .before .before .before .before .before .before .before .before .before .before .args .image .now) (c .before .before .before .before .before .before .before .before .before .before .before .before .before .args .newest) (c .before .before .before .before .before .before .before .before .before .before .before .before .before .args .m .kind) (c .before .before .before .before .before .before .before .before .before .before .before .before .before .args .m .view .0) (c .before .before .before .before .before .before .before .before .before .before .before .before .before .pre .1)) ∙ not-false _ (c .before .before .if4 .left))
+    (pass (sym (c .before .before .before .tag-fits .ensures ∙ tag-rule (a .image .now) (a .newest) (a .m .kind) (a .m .view .0) (c .before .before .before .before .before .before .before .before .before .before .before .before .before .pre .1)) ∙ not-false _ (c .before .before .if4 .left))
     (rw (sym (c .before .request-fits .ensures) ∙ not-true _ (c .if5 .taken)))))
 
 next-fits-requires : tie.Need-next-fits-requires
@@ -52,9 +54,10 @@ next-fits-requires c κs = search needs
 returns-6 : tie.Need-returns-6
 unfolding sentFits
 returns-6 c =
+    let a = c .before .before .before .before .before .before .before .before .before .before .before .before .before .before .before .args in
     pass (join (le-leb _ _ (c .before .before .before .before .before .before .before .before .before .before .if1 .left)) (le-leb _ _ (c .before .before .before .before .before .before .before .before .if2 .left)))
     (pass (sym (c .before .before .before .before .before .before .before .sender-fits .ensures) ∙ not-false _ (c .before .before .before .before .before .before .if3 .left))
-    (pass (sym (c .before .before .before .before .before .tag-fits .ensures ∙ tag-rule (c .before .before .before .before .before .before .before .before .before .before .before .before .before .before .before .args .image .now) (c .before .before .before .before .before .before .before .before .before .before .before .before .before .before .before .args .newest) (c .before .before .before .before .before .before .before .before .before .before .before .before .before .before .before .args .m .kind) (c .before .before .before .before .before .before .before .before .before .before .before .before .before .before .before .args .m .view .0) (c .before .before .before .before .before .before .before .before .before .before .before .before .before .before .before .pre .1)) ∙ not-false _ (c .before .before .before .before .if4 .left))
+    (pass (sym (c .before .before .before .before .before .tag-fits .ensures ∙ tag-rule (a .image .now) (a .newest) (a .m .kind) (a .m .view .0) (c .before .before .before .before .before .before .before .before .before .before .before .before .before .before .before .pre .1)) ∙ not-false _ (c .before .before .before .before .if4 .left))
     (pass (sym (c .before .before .before .request-fits .ensures) ∙ not-false _ (c .before .before .if5 .left))
     (rw (sym (c .before .next-fits .ensures) ∙ not-true _ (c .if6 .taken))))))
 
@@ -64,9 +67,10 @@ entry-zero-requires c κs = search needs
 returns-7 : tie.Need-returns-7
 unfolding sentFits
 returns-7 c =
+    let a = c .before .before .before .before .before .before .before .before .before .before .before .before .before .before .before .before .before .args in
     pass (join (le-leb _ _ (c .before .before .before .before .before .before .before .before .before .before .before .before .if1 .left)) (le-leb _ _ (c .before .before .before .before .before .before .before .before .before .before .if2 .left)))
     (pass (sym (c .before .before .before .before .before .before .before .before .before .sender-fits .ensures) ∙ not-false _ (c .before .before .before .before .before .before .before .before .if3 .left))
-    (pass (sym (c .before .before .before .before .before .before .before .tag-fits .ensures ∙ tag-rule (c .before .before .before .before .before .before .before .before .before .before .before .before .before .before .before .before .before .args .image .now) (c .before .before .before .before .before .before .before .before .before .before .before .before .before .before .before .before .before .args .newest) (c .before .before .before .before .before .before .before .before .before .before .before .before .before .before .before .before .before .args .m .kind) (c .before .before .before .before .before .before .before .before .before .before .before .before .before .before .before .before .before .args .m .view .0) (c .before .before .before .before .before .before .before .before .before .before .before .before .before .before .before .before .before .pre .1)) ∙ not-false _ (c .before .before .before .before .before .before .if4 .left))
+    (pass (sym (c .before .before .before .before .before .before .before .tag-fits .ensures ∙ tag-rule (a .image .now) (a .newest) (a .m .kind) (a .m .view .0) (c .before .before .before .before .before .before .before .before .before .before .before .before .before .before .before .before .before .pre .1)) ∙ not-false _ (c .before .before .before .before .before .before .if4 .left))
     (pass (sym (c .before .before .before .before .before .request-fits .ensures) ∙ not-false _ (c .before .before .before .before .if5 .left))
     (pass (sym (c .before .before .before .next-fits .ensures) ∙ not-false _ (c .before .before .if6 .left))
     (rw (sym (c .before .entry-zero .ensures) ∙ not-true _ (c .if7 .taken)))))))
@@ -77,9 +81,10 @@ entry-fits-requires c κs = search needs
 returns-8 : tie.Need-returns-8
 unfolding sentFits
 returns-8 c =
+    let a = c .before .before .before .before .before .before .before .before .before .before .before .before .before .before .before .before .before .before .args in
     pass (join (le-leb _ _ (c .before .before .before .before .before .before .before .before .before .before .before .before .before .if1 .left)) (le-leb _ _ (c .before .before .before .before .before .before .before .before .before .before .before .if2 .left)))
     (pass (sym (c .before .before .before .before .before .before .before .before .before .before .sender-fits .ensures) ∙ not-false _ (c .before .before .before .before .before .before .before .before .before .if3 .left))
-    (pass (sym (c .before .before .before .before .before .before .before .before .tag-fits .ensures ∙ tag-rule (c .before .before .before .before .before .before .before .before .before .before .before .before .before .before .before .before .before .before .args .image .now) (c .before .before .before .before .before .before .before .before .before .before .before .before .before .before .before .before .before .before .args .newest) (c .before .before .before .before .before .before .before .before .before .before .before .before .before .before .before .before .before .before .args .m .kind) (c .before .before .before .before .before .before .before .before .before .before .before .before .before .before .before .before .before .before .args .m .view .0) (c .before .before .before .before .before .before .before .before .before .before .before .before .before .before .before .before .before .before .pre .1)) ∙ not-false _ (c .before .before .before .before .before .before .before .if4 .left))
+    (pass (sym (c .before .before .before .before .before .before .before .before .tag-fits .ensures ∙ tag-rule (a .image .now) (a .newest) (a .m .kind) (a .m .view .0) (c .before .before .before .before .before .before .before .before .before .before .before .before .before .before .before .before .before .before .pre .1)) ∙ not-false _ (c .before .before .before .before .before .before .before .if4 .left))
     (pass (sym (c .before .before .before .before .before .before .request-fits .ensures) ∙ not-false _ (c .before .before .before .before .before .if5 .left))
     (pass (sym (c .before .before .before .before .next-fits .ensures) ∙ not-false _ (c .before .before .before .if6 .left))
     (pass (sym (c .before .before .entry-zero .ensures) ∙ not-false _ (c .before .if7 .left))

@@ -21,18 +21,20 @@ returns-2 c = pass (sym (c .before .before .before .kind-fits .ensures) ∙ not-
 
 load-message-requires : tie.Need-load-message-requires
 load-message-requires c κs =
-    let i = c .before .before .before .before .before .before .args .image .now in
-    let n = c .before .before .before .before .before .before .args .n .0 in
-    (search needs, sent-used i n 2 (c .before .before .before .before .before .before .args .c) (sym (c .before .is-sent .ensures) ∙ not-false _ (c .if2 .left)) (open-used i (c .before .before .before .before .before .before .pre)))
+    let a = c .before .before .before .before .before .before .args in
+    let i = a .image .now in
+    let n = a .n .0 in
+    (search needs, sent-used i n 2 (a .c) (sym (c .before .is-sent .ensures) ∙ not-false _ (c .if2 .left)) (open-used i (c .before .before .before .before .before .before .pre)))
 
 same-requires : tie.Need-same-requires
 same-requires c κs = search needs
 
 returns-3 : tie.Need-returns-3
 returns-3 c =
-    let i = c .before .before .before .before .before .before .before .before .before .args .image .now in
-    let n = c .before .before .before .before .before .before .before .before .before .args .n .0 in
-    let b = sent-used i n 2 (c .before .before .before .before .before .before .before .before .before .args .c) (sym (c .before .before .before .before .is-sent .ensures) ∙ not-false _ (c .before .before .before .if2 .left)) (open-used i (c .before .before .before .before .before .before .before .before .before .pre)) in
+    let a = c .before .before .before .before .before .before .before .before .before .args in
+    let i = a .image .now in
+    let n = a .n .0 in
+    let b = sent-used i n 2 (a .c) (sym (c .before .before .before .before .is-sent .ensures) ∙ not-false _ (c .before .before .before .if2 .left)) (open-used i (c .before .before .before .before .before .before .before .before .before .pre)) in
     let e = c .before .before .load-message .ensures ∙ sym (message-decode i n (b)) in
     pass (sym (c .before .before .before .before .before .before .kind-fits .ensures) ∙ not-false _ (c .before .before .before .before .before .if1 .left)) (pass (sym (c .before .before .before .before .is-sent .ensures) ∙ not-false _ (c .before .before .before .if2 .left)) (rw (← e) (c .same .ensures)))
 

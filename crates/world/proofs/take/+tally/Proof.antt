@@ -8,7 +8,7 @@ use borrow.Fn.PlainCycle.{Measures, is, falls, and}
 use Rattle.world.proofs.take.tally.Reads as tally
 use Rattle.world.proofs.take.tally.Kinds as tally-kinds
 use Rattle.world.proofs.take.+tally.Lts-tally as tally-lts
-use Rattle.codec.proofs.image.load_message.Reads as load-message-reads
+use Rattle.codec.proofs.places.load_message.Reads as load-message-reads
 use Rattle.machines.proofs.tally.add_answer.Reads as add-answer-reads
 use Rattle.world.proofs.take.+tally.{statement}
 use Rattle.world.proofs.take.+tally.Tie.{close}

@@ -4,8 +4,8 @@ use Rattle.codec.specs.Lists.{span}
 use Rattle.codec.specs.Records.{administratorOf}
 use Rattle.codec.specs.Places.{administratorAt}
 use borrow.Author.Needs.{needs}
-use Rattle.codec.proofs.image.load_administrator.Statement.{statement}
-use Rattle.codec.proofs.image.load_administrator.Tie as tie
+use Rattle.codec.proofs.places.load_administrator.Statement.{statement}
+use Rattle.codec.proofs.places.load_administrator.Tie as tie
 
 add-read-administrator : tie.Need-add-read-administrator
 add-read-administrator c = search needs

@@ -1,7 +1,7 @@
 use Rattle.codec.specs.Places.{usedAt}
 use borrow.Author.Needs.{needs}
-use Rattle.codec.proofs.image.load_used.Statement.{statement}
-use Rattle.codec.proofs.image.load_used.Tie as tie
+use Rattle.codec.proofs.places.load_used.Statement.{statement}
+use Rattle.codec.proofs.places.load_used.Tie as tie
 
 shared-slice-read-half2 : tie.Need-shared-slice-read-half2
 shared-slice-read-half2 c = search needs

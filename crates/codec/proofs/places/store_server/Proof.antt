@@ -4,8 +4,8 @@ use Rattle.codec.specs.Lists.{put-put}
 use Rattle.codec.specs.Records.{serverHead, serverBytes, entryBytes}
 use Rattle.codec.specs.Places.{putServer}
 use borrow.Author.Needs.{needs}
-use Rattle.codec.proofs.image.store_server.Statement.{statement}
-use Rattle.codec.proofs.image.store_server.Tie as tie
+use Rattle.codec.proofs.places.store_server.Statement.{statement}
+use Rattle.codec.proofs.places.store_server.Tie as tie
 
 cast-at : tie.Need-cast-at
 cast-at c = search needs

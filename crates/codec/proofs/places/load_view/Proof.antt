@@ -4,8 +4,8 @@ use Rattle.codec.specs.Lists.{span}
 use Rattle.codec.specs.Records.{viewOf}
 use Rattle.codec.specs.Places.{viewAt}
 use borrow.Author.Needs.{needs}
-use Rattle.codec.proofs.image.load_view.Statement.{statement}
-use Rattle.codec.proofs.image.load_view.Tie as tie
+use Rattle.codec.proofs.places.load_view.Statement.{statement}
+use Rattle.codec.proofs.places.load_view.Tie as tie
 
 cast-at : tie.Need-cast-at
 cast-at c = search needs

@@ -3,8 +3,8 @@ use Rattle.codec.specs.Layout.{administratorPlace}
 use Rattle.codec.specs.Lists.{put}
 use Rattle.codec.specs.Places.{putAdministrator}
 use borrow.Author.Needs.{needs}
-use Rattle.codec.proofs.image.store_administrator.Statement.{statement}
-use Rattle.codec.proofs.image.store_administrator.Tie as tie
+use Rattle.codec.proofs.places.store_administrator.Statement.{statement}
+use Rattle.codec.proofs.places.store_administrator.Tie as tie
 
 administrator-bytes-requires : tie.Need-administrator-bytes-requires
 administrator-bytes-requires c κs = search needs

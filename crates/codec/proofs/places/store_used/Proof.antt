@@ -1,7 +1,7 @@
 use Rattle.codec.specs.Places.{putUsed}
 use borrow.Author.Needs.{needs}
-use Rattle.codec.proofs.image.store_used.Statement.{statement}
-use Rattle.codec.proofs.image.store_used.Tie as tie
+use Rattle.codec.proofs.places.store_used.Statement.{statement}
+use Rattle.codec.proofs.places.store_used.Tie as tie
 
 cast-t5 : tie.Need-cast-t5
 cast-t5 c = search needs

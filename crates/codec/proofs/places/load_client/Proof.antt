@@ -4,8 +4,8 @@ use Rattle.codec.specs.Lists.{span}
 use Rattle.codec.specs.Records.{clientOf}
 use Rattle.codec.specs.Places.{clientAt}
 use borrow.Author.Needs.{needs}
-use Rattle.codec.proofs.image.load_client.Statement.{statement}
-use Rattle.codec.proofs.image.load_client.Tie as tie
+use Rattle.codec.proofs.places.load_client.Statement.{statement}
+use Rattle.codec.proofs.places.load_client.Tie as tie
 
 sub-at : tie.Need-sub-at
 sub-at c = search needs

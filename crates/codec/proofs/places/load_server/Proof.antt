@@ -4,8 +4,8 @@ use Rattle.codec.specs.Lists.{span}
 use Rattle.codec.specs.Records.{serverOf}
 use Rattle.codec.specs.Places.{serverAt}
 use borrow.Author.Needs.{needs}
-use Rattle.codec.proofs.image.load_server.Statement.{statement}
-use Rattle.codec.proofs.image.load_server.Tie as tie
+use Rattle.codec.proofs.places.load_server.Statement.{statement}
+use Rattle.codec.proofs.places.load_server.Tie as tie
 
 cast-at : tie.Need-cast-at
 cast-at c = search needs

@@ -3,8 +3,8 @@ use Rattle.codec.specs.Layout.{viewPlace}
 use Rattle.codec.specs.Lists.{put}
 use Rattle.codec.specs.Places.{putView}
 use borrow.Author.Needs.{needs}
-use Rattle.codec.proofs.image.store_view.Statement.{statement}
-use Rattle.codec.proofs.image.store_view.Tie as tie
+use Rattle.codec.proofs.places.store_view.Statement.{statement}
+use Rattle.codec.proofs.places.store_view.Tie as tie
 
 view-bytes-requires : tie.Need-view-bytes-requires
 view-bytes-requires c κs = search needs

@@ -4,8 +4,8 @@ use Rattle.codec.specs.Lists.{put-put}
 use Rattle.codec.specs.Records.{messageHead, messageBytes, entryBytes}
 use Rattle.codec.specs.Places.{putMessage}
 use borrow.Author.Needs.{needs}
-use Rattle.codec.proofs.image.store_message.Statement.{statement}
-use Rattle.codec.proofs.image.store_message.Tie as tie
+use Rattle.codec.proofs.places.store_message.Statement.{statement}
+use Rattle.codec.proofs.places.store_message.Tie as tie
 
 cast-at : tie.Need-cast-at
 cast-at c = search needs

@@ -4,8 +4,8 @@ use Rattle.codec.specs.Lists.{span}
 use Rattle.codec.specs.Records.{messageOf}
 use Rattle.codec.specs.Places.{messageAt}
 use borrow.Author.Needs.{needs}
-use Rattle.codec.proofs.image.load_message.Statement.{statement}
-use Rattle.codec.proofs.image.load_message.Tie as tie
+use Rattle.codec.proofs.places.load_message.Statement.{statement}
+use Rattle.codec.proofs.places.load_message.Tie as tie
 
 cast-at : tie.Need-cast-at
 cast-at c = search needs

@@ -4,8 +4,8 @@ use Rattle.codec.specs.Lists.{put-put}
 use Rattle.codec.specs.Records.{clientHead, clientBytes, entryBytes}
 use Rattle.codec.specs.Places.{putClient}
 use borrow.Author.Needs.{needs}
-use Rattle.codec.proofs.image.store_client.Statement.{statement}
-use Rattle.codec.proofs.image.store_client.Tie as tie
+use Rattle.codec.proofs.places.store_client.Statement.{statement}
+use Rattle.codec.proofs.places.store_client.Tie as tie
 
 sub-at : tie.Need-sub-at
 sub-at c = search needs
