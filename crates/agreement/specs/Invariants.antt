@@ -187,9 +187,9 @@ module _ {w v : World} (c : Change w v) where
         seen = x .seen;
         enough = x .enough;
         vote = λ s q.
-          let y = x .vote s q in
-          let e = c .old (y .at) (y .below) in
-          record { at = y .at; below = omega (arith, y .below, grown); is = rw e (y .is); who = rw e (y .who); tag = rw e (y .tag); fact = f s (y .at) (y .below) (y .is) (y .who) (y .tag) (y .fact) };
+            let y = x .vote s q in
+            let e = c .old (y .at) (y .below) in
+            record { at = y .at; below = omega (arith, y .below, grown); is = rw e (y .is); who = rw e (y .who); tag = rw e (y .tag); fact = f s (y .at) (y .below) (y .is) (y .who) (y .tag) (y .fact) };
       }
 
 module _ {w v : World} (c : Change w v) (n : Inv w) where
@@ -308,9 +308,9 @@ module _ {w v : World} (c : Change w v) (n : Inv w) where
         asks = o .asks;
         ends = rw (c .old (o .end) (omega (arith, o .asks))) (o .ends);
         votes = rw (c .views (o .tag) h)
-          (votes-on c (λ s k b i x t p.
+            (votes-on c (λ s k b i x t p.
             record { before = p .before; to = record { request = rw (c .old k b) (p .to .request); covered = rw (c .old k b, e) (p .to .covered) } })
-          (o .votes));
+            (o .votes));
       }
 
   -- the new START
@@ -327,7 +327,7 @@ module _ {w v : World} (c : Change w v) (n : Inv w) where
         asks = omega arith;
         ends = rw (c .old (o .end) u) (o .ends);
         votes = rw (c .views (newest w) (le-refl _))
-          (votes-on c (λ s k b i x t p. record { before = omega arith; to = record { request = rw (c .old k b) (p .request); covered = rw (c .old k b) (p .covered) } }) (o .votes));
+            (votes-on c (λ s k b i x t p. record { before = omega arith; to = record { request = rw (c .old k b) (p .request); covered = rw (c .old k b) (p .covered) } }) (o .votes));
       }
 
   started-on : (m : ℕ) → m ≤ v .used → sent v m .kind ≡ START → StartOf v m

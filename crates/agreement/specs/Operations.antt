@@ -110,9 +110,9 @@ module _ {w v : World} (c : Change w v) (n : Inv w) where
         low = h .low;
         high = omega (arith, h .high, raised c);
         votes = rw (c .views (h .tag) (h .high))
-          (votes-on c (λ s k l i x t p.
+            (votes-on c (λ s k l i x t p.
             record { before = p .before; other = rw (asked-old k l i) (p .other); shows = λ g. rw (c .old k l) (p .shows (c .grew s .fair (h .tag) g)) })
-          (h .votes));
+            (h .votes));
       }
 
   read-on : {e : Entry} {b : ℕ} → Read w e b → Read v e b
@@ -155,7 +155,7 @@ module _ {w v : World} (c : Change w v) (n : Inv w) where
         low = l;
         high = omega (arith, raised c);
         votes = rw (c .views (x .tag) u)
-          (votes-on c (λ s k h i z t p. record { after = omega (arith, n .later k h i, p .request); covered = rw (c .old k h) (p .covered) }) (x .votes));
+            (votes-on c (λ s k h i z t p. record { after = omega (arith, n .later k h i, p .request); covered = rw (c .old k h) (p .covered) }) (x .votes));
       }
 
   pub wrote-new : {i r : ℕ} → v .used ≡ w .used + 1 → Closed w v i r → r ≤ w .used → (kind : ℕ) → client w i .kind ≡ kind → Wrote v i kind r (v .used)
@@ -182,13 +182,13 @@ module _ {w v : World} (c : Change w v) (n : Inv w) where
         low = omega (arith, y .low, x .chosen .tag);
         high = omega (arith, y .high, x .chosen .tag, raised c);
         votes = rw (c .views (x .tag) (omega (arith, y .high, x .chosen .tag)))
-          (votes-on c (λ s j b i z t p.
+            (votes-on c (λ s j b i z t p.
             record {
               before = omega (arith, grown c);
               other = rw (asked-old j b i, p .request, k) (λ e. apart e);
               shows = λ g. rw (c .old j b) (rw (p .request) at (n .paid j b (record { is = i; good = rw (z, t) (c .grew s .fair (x .tag) g) }) (rw (p .request) k)));
             })
-          (x .votes));
+            (x .votes));
       }
     where
       apart : WRITE ≡ END → ⊥

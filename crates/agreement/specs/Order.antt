@@ -190,8 +190,8 @@ module _ {w : World} {place : ℕ} {l : List Tracked} (t : Trusted w) (s : Story
           seen = x .votes .seen;
           enough = x .votes .enough;
           vote = λ p q.
-            let v = x .votes .vote p q in
-            record { at = v .at; below = v .below; is = v .is; who = v .who; tag = v .tag; fact = record { after = omega (arith, v .fact .after); covered = v .fact .covered } };
+              let v = x .votes .vote p q in
+              record { at = v .at; below = v .below; is = v .is; who = v .who; tag = v .tag; fact = record { after = omega (arith, v .fact .after); covered = v .fact .covered } };
         };
       }
 
@@ -451,21 +451,22 @@ module _ {w : World} {place : ℕ} {l : List Tracked} (t : Trusted w) (s : Story
           let r = pair op order sorted b in
           let p : 1 ≤ r .two .end = omega (arith, e .completed, ap (λ (o : Operation). o .end) (r .isTwo), op-end (r .two)) in
           let q : r .two .end < r .one .begin =
-                omega (arith, e .before, ap (λ (o : Operation). o .end) (r .isTwo), op-end (r .two), ap (λ (o : Operation). o .begin) (r .isOne), op-begin (r .one)) in
+          omega (arith, e .before, ap (λ (o : Operation). o .end) (r .isTwo), op-end (r .two), ap (λ (o : Operation). o .begin) (r .isOne), op-begin (r .one)) in
           absurd (late (r .two) (r .one) (r .twoIn) (r .oneIn) p q (r .rel))
       go (alike q) =
           let m = in-map op order i in
           let o = m .of in
           let k : 1 ≤ o .end = omega (arith, e .completed, ap (λ (z : Operation). z .end) (m .is), op-end o) in
           absurd
-          (omega
-          (arith,
-          s .fits o (stood (m .member) .member) .spans k,
-          e .before,
-          ap (λ (z : Operation). z .end) (m .is),
-          op-end o,
-          ap (λ (z : Operation). z .begin) (m .is ∙ q),
-          op-begin o))
+          (omega (
+            arith,
+            s .fits o (stood (m .member) .member) .spans k,
+            e .before,
+            ap (λ (z : Operation). z .end) (m .is),
+            op-end o,
+            ap (λ (z : Operation). z .begin) (m .is ∙ q),
+            op-begin o,
+          ))
 
   -- the entries of elements that stand for operations with one entry
   one-entry : (a b : Tracked) → In a order → In b order → op a .entry ≡ op b .entry → shows a ≡ shows b
@@ -486,7 +487,7 @@ module _ {w : World} {place : ℕ} {l : List Tracked} (t : Trusted w) (s : Story
           let c = pair op order sorted (z .after) in
           let d = pair op order sorted (z .before) in
           let k : c .two .kind < c .one .kind =
-                omega (arith, p, z .write, ap (λ (o : Operation). o .kind) (c .isOne), op-kind (c .one), ap (λ (o : Operation). o .kind) (c .isTwo), op-kind (c .two)) in
+          omega (arith, p, z .write, ap (λ (o : Operation). o .kind) (c .isOne), op-kind (c .one), ap (λ (o : Operation). o .kind) (c .isTwo), op-kind (c .two)) in
           let mid = one-entry (c .two) (d .one) (c .twoIn) (d .oneIn) (entry-at (c .isTwo ∙ sym (d .isOne))) in
           let ends = one-entry (c .one) (d .two) (c .oneIn) (d .twoIn) (entry-at (c .isOne) ∙ e ∙ sym (entry-at (d .isTwo))) in
           ≺-not (precedes-≺ (c .rel) k) (rw (mid, ends) (precedes-≼ (d .rel)))

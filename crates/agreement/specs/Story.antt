@@ -285,8 +285,8 @@ module _ {w v : World} {place done starter kind : ℕ} {l new : List Tracked} (n
         read = rw (tracked-read v place done a, tracked-read v place done b) (e .read);
         begin = rw (tracked-begin v place done a, tracked-begin v place done b) (e .begin);
         ended = λ q.
-          let (h, k) = e .ended (sym (tracked-client v place done a) ∙ q ∙ tracked-client v place done b) in
-          rw (tracked-done v place done a h, tracked-begin v place done b) (h, k);
+            let (h, k) = e .ended (sym (tracked-client v place done a) ∙ q ∙ tracked-client v place done b) in
+            rw (tracked-done v place done a h, tracked-begin v place done b) (h, k);
       }
 
   order-new : (x y : Tracked) → In x (map tr l) → In y new → Earlier x y

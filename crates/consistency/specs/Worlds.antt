@@ -65,7 +65,7 @@ noted-same r u b h = go (stepBytes (u .world) b) (step-spelled (h .image) b) (le
           image = s;
           place = ap (λ (n : ℕ). n + 1) (h .place);
           operations = λ k.
-            map (tracked (spelled s k) (h .place k) (a .completed)) (h .operations k) ++ started (spelled s k) (h .place k) (stepOf b);
+              map (tracked (spelled s k) (h .place k) (a .completed)) (h .operations k) ++ started (spelled s k) (h .place k) (stepOf b);
         }
 
     go : (x : Result After) → stepOn i b ≡ x → Spells (leftBy i (stepOn i b)) (left (u .world) x)

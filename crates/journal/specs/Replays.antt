@@ -157,9 +157,9 @@ module _ (j : List ℕ) (at : ℕ) (whole : length j % stepWidth ≡ 0) (even : 
   steps-on : stepsOf (drop at j) ≡ take stepWidth (take (length j - at) (drop at j)) ∷ stepsOf (drop (at + stepWidth) j)
   unfolding stepsOf
   steps-on =
-    steps-next (length (drop at j) / stepWidth) (drop at j) (let e = length-drop at j in omega arith)
-    ∙ ap₂ (λ (n : ℕ) (r : List ℕ). take stepWidth (drop at j) ∷ stepsIn n r) fewer on
-    ∙ ap (λ (r : List ℕ). take stepWidth r ∷ stepsOf (drop (at + stepWidth) j)) (sym lent)
+      steps-next (length (drop at j) / stepWidth) (drop at j) (let e = length-drop at j in omega arith)
+      ∙ ap₂ (λ (n : ℕ) (r : List ℕ). take stepWidth (drop at j) ∷ stepsIn n r) fewer on
+      ∙ ap (λ (r : List ℕ). take stepWidth r ∷ stepsOf (drop (at + stepWidth) j)) (sym lent)
 
 step-whole : (w : World) (b : List ℕ) → length b ≡ stepWidth → stepBytes w b ≡ step w (stepOf b)
 unfolding stepBytes guard
@@ -185,9 +185,9 @@ module _ {l₀ j l : List ℕ} {at : ℕ} (g : Going l₀ j l at) (below : at < 
       go : (x : Result After) → step (decode l) (stepOf part) ≡ x → refused n ≡ answered x → l′ ≡ leftBy l x → Plays (record { steps = at / stepWidth; refusal = n }) l′ (played (replay (decode l₀) (stepsOf j)))
       go (done a) e r i = let z : _≡_ {A = ℕ} 0 1 = cc in absurd (omega arith)
       go (refused m) e r i =
-        let same : n ≡ m = cc in
-        let all : replay (decode l₀) (stepsOf j) ≡ record { world = decode l; steps = 0 + at / stepWidth; refusal = m } = ahead ∙ ap (after (at / stepWidth)) (replay-refused (decode l) part (stepsOf (drop (at + stepWidth) j)) m (whole-step ∙ e)) in
-        rw all (record { steps = omega arith; refusal = same; image = i ∙ sym (g .legible .image) })
+          let same : n ≡ m = cc in
+          let all : replay (decode l₀) (stepsOf j) ≡ record { world = decode l; steps = 0 + at / stepWidth; refusal = m } = ahead ∙ ap (after (at / stepWidth)) (replay-refused (decode l) part (stepsOf (drop (at + stepWidth) j)) m (whole-step ∙ e)) in
+          rw all (record { steps = omega arith; refusal = same; image = i ∙ sym (g .legible .image) })
 
   pub going-on : (r : Stepped) (c : ℕ) (l′ : List ℕ) → r ≡ StepDone c → Does r l l′ (step (decode l) (stepOf part)) → Going l₀ j l′ (at + stepWidth)
   going-on r c l′ q d = record { legible = next; whole = g .whole; even = (let e = g .even in omega arith); bound = (let e = g .even in let f = g .whole in omega arith); rest = go (step (decode l) (stepOf part)) refl (ap stepped (sym q) ∙ d .answer) (d .image) }
@@ -201,11 +201,11 @@ module _ {l₀ j l : List ℕ} {at : ℕ} (g : Going l₀ j l at) (below : at < 
       go : (x : Result After) → step (decode l) (stepOf part) ≡ x → done c ≡ answered x → l′ ≡ leftBy l x → replay (decode l₀) (stepsOf j) ≡ after ((at + stepWidth) / stepWidth) (replay (decode l′) (stepsOf (drop (at + stepWidth) j)))
       go (refused m) e r i = let z : _≡_ {A = ℕ} 0 1 = cc in absurd (omega arith)
       go (done a) e r i =
-        let here : a .world ≡ decode l′ = sym (world-decode (a .world) (step-kept (decode l) (g .legible .formed) (stepOf part) a e)) ∙ ap decode (sym i) in
-        ahead
-        ∙ ap (after (at / stepWidth)) (replay-done (decode l) part (stepsOf (drop (at + stepWidth) j)) a (whole-step ∙ e))
-        ∙ more (replay (a .world) (stepsOf (drop (at + stepWidth) j)))
-        ∙ ap (λ (w : World). after ((at + stepWidth) / stepWidth) (replay w (stepsOf (drop (at + stepWidth) j)))) here
+          let here : a .world ≡ decode l′ = sym (world-decode (a .world) (step-kept (decode l) (g .legible .formed) (stepOf part) a e)) ∙ ap decode (sym i) in
+          ahead
+          ∙ ap (after (at / stepWidth)) (replay-done (decode l) part (stepsOf (drop (at + stepWidth) j)) a (whole-step ∙ e))
+          ∙ more (replay (a .world) (stepsOf (drop (at + stepWidth) j)))
+          ∙ ap (λ (w : World). after ((at + stepWidth) / stepWidth) (replay w (stepsOf (drop (at + stepWidth) j)))) here
 
 pub going-end : {l₀ j l : List ℕ} {at : ℕ} → Going l₀ j l at → length j ≤ at → Plays (record { steps = at / stepWidth; refusal = 0 }) l (played (replay (decode l₀) (stepsOf j)))
 unfolding stepsOf stepsIn

@@ -7,10 +7,10 @@ ghost use Rattle.protocol.specs.Runs.{stepWidth, stepOf as stepIn, replay as re
 ghost use Rattle.codec.specs.Images.{decode};
 ghost use Rattle.world.specs.Images.{Legible, Does};
 ghost use Rattle.journal.specs.Replays.{Plays, played, stepsOf, replayOn};
+use super::Replayed;
 use codec::layout::IMAGE;
 use codec::layout::STEP;
 use image::readable::readable;
-use super::Replayed;
 use world::Stepped;
 use world::step::advance;
 

@@ -151,7 +151,7 @@ module _ {w v : World} (o : Onward w v) where
   end-on q r e =
       let p = and-left _ _ e in
       let t : message v r .view .0 ≡ newest v =
-            ap (λ (x : ViewNumber). x .0) (tag-on r (sent-present w r END 0 p)) ∙ eqb-true _ _ (and-right (isSent w r END 0) _ e) ∙ sym q in
+      ap (λ (x : ViewNumber). x .0) (tag-on r (sent-present w r END 0 p)) ∙ eqb-true _ _ (and-right (isSent w r END 0) _ e) ∙ sym q in
       and-both _ _ (sent-on r END 0 p) (eq-eqb _ _ t)
 
   pub ending-on : newest v ≡ newest w → (x : Ending) → endingFits w x ≡ true → endingFits v x ≡ true

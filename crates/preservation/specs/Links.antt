@@ -189,7 +189,7 @@ module _ {w : World} {k r : ℕ} (u : Untaken w k r) where
   chain-other q n h c =
       let s : message v q .next ≡ message w q .next = ap (λ (m : Message). m .next) (v-other q (λ e. clash (eq-eqb _ _ (u .is)) (rw (← e) (not-answer (message w q .kind) (h .asked)))) n) in
       let f : follow v messages (message v q .next .0) ≡ follow w messages (message w q .next .0) =
-            ap (λ (m : MessageNumber). follow v messages (m .0)) s ∙ walk-same q messages (message w q .next .0) (c .only) in
+      ap (λ (m : MessageNumber). follow v messages (m .0)) s ∙ walk-same q messages (message w q .next .0) (c .only) in
       chained-of v q (short-on h) (rw f (all-map (takenAnswer w q) (takenAnswer v q) _ (λ j e. is-taken v q j (is-on (taken-is w q j e))) (c .only)))
       (λ j l b t. rw f (c .every j l (omega (arith, v-used)) (is-taken w q j (is-back (other t) (taken-is v q j t)))))
       (rw f (c .once))
@@ -200,9 +200,12 @@ module _ {w : World} {k r : ℕ} (u : Untaken w k r) where
   -- the chain of r has k for its head
   chain-short : Chained w r → length (chain w r) + 2 ≤ w .used
   chain-short c =
-      omega (arith, pigeons (chain w r) (w .used) (c .once) (answers-fit w r (chain w r) (c .only)),
-      count-lacks-two (λ i. any (eqb i) (chain w r)) k r (w .used) (u .low) (u .below) (u .from) (u .to) apart
-      (outside (takenAnswer w r) (chain w r) k (c .only) (not-taken w r k (λ i. clash (i .taken) (u .free)))) (outside (takenAnswer w r) (chain w r) r (c .only) (no-request w r r (u .asked))))
+      omega (
+        arith,
+        pigeons (chain w r) (w .used) (c .once) (answers-fit w r (chain w r) (c .only)),
+        count-lacks-two (λ i. any (eqb i) (chain w r)) k r (w .used) (u .low) (u .below) (u .from) (u .to) apart
+            (outside (takenAnswer w r) (chain w r) k (c .only) (not-taken w r k (λ i. clash (i .taken) (u .free)))) (outside (takenAnswer w r) (chain w r) r (c .only) (no-request w r r (u .asked))),
+      )
 
   chain-rest : Chained w r → follow v 1022 (message v k .next .0) ≡ chain w r
   unfolding chain

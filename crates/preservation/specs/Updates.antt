@@ -98,7 +98,7 @@ same-chained : (w v : World) → ((n : ℕ) → message v n ≡ message w n) →
 unfolding chain
 same-chained w v m u q h c =
     let f : follow v messages (message v q .next .0) ≡ follow w messages (message w q .next .0) =
-          ap (λ (x : Message). follow v messages (x .next .0)) (m q) ∙ follow-same w v (takenAnswer w q) (λ k e. ap (λ (x : Message). x .next) (m k)) messages _ (c .only) in
+    ap (λ (x : Message). follow v messages (x .next .0)) (m q) ∙ follow-same w v (takenAnswer w q) (λ k e. ap (λ (x : Message). x .next) (m k)) messages _ (c .only) in
     chained-of v q (record { low = h .low; below = omega (arith, h .below); full = omega (arith, h .full); asked = rw (m q) (h .asked) })
     (rw f (all-map (takenAnswer w q) (takenAnswer v q) _ (λ k e. rw (taken k) e) (c .only)))
     (λ k a b e. rw f (c .every k a (omega arith) (rw (taken k) at e))) (rw f (c .once))
@@ -257,8 +257,8 @@ module _ {w : World} (h : Formed w) (m : Message) (l : w .used < messages) (f : 
   chain-old q s c =
       let e : message after q ≡ message w q = after-beyond q (λ j. omega (arith, s .below)) in
       let g : follow after messages (message after q .next .0) ≡ follow w messages (message w q .next .0) =
-            ap (λ (x : Message). follow after messages (x .next .0)) e
-            ∙ follow-same w after (takenAnswer w q) (λ k b. ap (λ (x : Message). x .next) (after-beyond k (λ j. omega (arith, taken-is w q k b .below)))) messages (message w q .next .0) (c .only) in
+      ap (λ (x : Message). follow after messages (x .next .0)) e
+      ∙ follow-same w after (takenAnswer w q) (λ k b. ap (λ (x : Message). x .next) (after-beyond k (λ j. omega (arith, taken-is w q k b .below)))) messages (message w q .next .0) (c .only) in
       chained-of after q
       (record { low = s .low; below = omega (arith, s .below, after-used); full = omega (arith, after-used); asked = rw e (s .asked) })
       (rw g (all-map (takenAnswer w q) (takenAnswer after q) _ (taken-on q) (c .only)))

@@ -3,7 +3,6 @@ pub mod Tests
 pub mod Bits
 pub mod Sizes
 pub mod Entries
-
 pub mod Worlds
 pub mod Change
 pub mod Sound

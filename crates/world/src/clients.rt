@@ -5,6 +5,11 @@ ghost use Rattle.protocol.specs.Sizes.{clients};
 ghost use Rattle.protocol.specs.Steps.{begins as beginsOn};
 ghost use Rattle.codec.specs.Images.{decode};
 ghost use Rattle.world.specs.Images.{Legible, Does};
+use super::Stepped;
+use super::mail::request;
+use super::mail::send;
+use codec::layout::MESSAGES;
+use codec::layout::READ;
 use codec::places::load_client;
 use codec::places::load_used;
 use codec::places::store_client;
@@ -13,9 +18,6 @@ use machines::entries::entry_of;
 use protocol::Begun;
 use protocol::MessageNumber;
 use protocol::ViewNumber;
-use super::mail::request;
-use super::mail::send;
-use super::Stepped;
 
 // "Write, read: 4, client not idle; 10"
 pub fn begins(image: &mut [u8], c: u8, kind: u8, value: u32) -> Stepped
@@ -29,10 +31,10 @@ pub fn begins(image: &mut [u8], c: u8, kind: u8, value: u32) -> Stepped
     match begun {
         Begun::BeginRefused(x) => Stepped::StepRefused(x),
         Begun::Began(next) => {
-            if 1023 <= used {
+            if MESSAGES <= used {
                 return Stepped::StepRefused(10);
             }
-            let read = request(1, c, ViewNumber(0), entry_of(0, 0, 0));
+            let read = request(READ, c, ViewNumber(0), entry_of(0, 0, 0));
             store_client(image, c, next);
             send(image, n, read);
             Stepped::StepDone(0)

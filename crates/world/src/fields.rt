@@ -5,6 +5,10 @@ ghost use Prim.Native.Nat.{_≤_, _<_};
 ghost use Rattle.protocol.specs.Tools.{if};
 ghost use Rattle.protocol.specs.Sizes.{clients, servers};
 ghost use Rattle.protocol.specs.Steps.{CLIENT, SERVER, uses as usesField, field as fieldOf, fieldsFit};
+use codec::layout::CLIENTS;
+use codec::layout::MESSAGES;
+use codec::layout::SERVERS;
+use codec::layout::VIEWS;
 use protocol::Step;
 
 // A flag for each field that a step may use; who is a client or a server.
@@ -33,6 +37,19 @@ const FIELDS: [u8; 8] = [
     SERVER + VIEW + MESSAGE + SOURCE,
     F + VALUE,
 ];
+
+// The last number of each range.
+const LAST_CLIENT: u32 = CLIENTS as u32;
+
+const LAST_SERVER: u32 = SERVERS as u32;
+
+const LAST_VIEW: u32 = VIEWS as u32;
+
+const LAST_MESSAGE: u32 = MESSAGES as u32;
+
+const LAST_BYTE: u32 = 255;
+
+const LAST_WORD: u32 = 4294967295;
 
 // Whether a kind uses a field.
 fn uses(kind: u8, flag: u8) -> bool
@@ -64,10 +81,10 @@ fn who_fits(kind: u8, who: u8) -> bool
 {
     let client = uses(kind, CLIENT);
     if client {
-        return field(true, 1, 16, who as u32);
+        return field(true, 1, LAST_CLIENT, who as u32);
     }
     let server = uses(kind, SERVER);
-    field(server, 1, 32, who as u32)
+    field(server, 1, LAST_SERVER, who as u32)
 }
 
 fn both(a: bool, b: bool) -> bool
@@ -94,11 +111,11 @@ pub fn fields_fit(st: Step) -> bool
         return false;
     }
     let who = who_fits(kind, st.who);
-    let view_fits = field(uses(kind, VIEW), 1, 32, t as u32);
-    let f_fits = field(uses(kind, F), 0, 255, st.f as u32);
-    let message_fits = field(uses(kind, MESSAGE), 1, 1023, n as u32);
-    let source_fits = field(uses(kind, SOURCE), 0, 1023, k as u32);
-    let value_fits = field(uses(kind, VALUE), 0, 4294967295, st.value);
+    let view_fits = field(uses(kind, VIEW), 1, LAST_VIEW, t as u32);
+    let f_fits = field(uses(kind, F), 0, LAST_BYTE, st.f as u32);
+    let message_fits = field(uses(kind, MESSAGE), 1, LAST_MESSAGE, n as u32);
+    let source_fits = field(uses(kind, SOURCE), 0, LAST_MESSAGE, k as u32);
+    let value_fits = field(uses(kind, VALUE), 0, LAST_WORD, st.value);
     let numbers = both(message_fits, both(source_fits, value_fits));
     both(who, both(view_fits, both(f_fits, numbers)))
 }

@@ -10,6 +10,12 @@ ghost use lib.Dec.{eqb};
 ghost use Rattle.protocol.specs.Tools.{if};
 ghost use Rattle.protocol.specs.Entries.{empty};
 ghost use Rattle.world.specs.Images.{Legible, Does};
+use super::Stepped;
+use super::mail::answer;
+use super::mail::present;
+use super::mail::send;
+use codec::layout::MESSAGES;
+use codec::layout::WRITE;
 use codec::places::load_message;
 use codec::places::load_server;
 use codec::places::load_used;
@@ -26,10 +32,6 @@ use protocol::Server;
 use protocol::ServerNumber;
 use protocol::Shown;
 use protocol::ViewNumber;
-use super::mail::answer;
-use super::mail::present;
-use super::mail::send;
-use super::Stepped;
 
 // Server s is in N(t).
 fn is_member(image: &[u8], t: ViewNumber, s: ServerNumber) -> bool
@@ -51,7 +53,7 @@ fn reply(image: &mut [u8], s: ServerNumber, n: MessageNumber, b: Server, x: Show
     ensures { λ r. ⌜ Does r (now (image .entry)) (now (image .exit)) (answersOn (some x) (decode (now (image .entry))) (s .0) (n .0) b) ⌝ }
 {
     let used = load_used(image);
-    if 1023 <= used {
+    if MESSAGES <= used {
         return Stepped::StepRefused(10);
     }
     let m = answer(s, n, x);
@@ -120,7 +122,7 @@ fn is_source(image: &[u8], n: MessageNumber) -> bool
     }
     let m = load_message(image, n);
     let kind = m.kind;
-    kind == 2
+    kind == WRITE
 }
 
 // The empty entry, or that of the message n.
@@ -137,7 +139,13 @@ fn shown_entry(image: &[u8], n: MessageNumber) -> Entry
 }
 
 // "False answer: 5, message not of kind 1 to 3, or source neither 0 nor a WRITE; 6, server not faulty; 9, it lacks that key; 10."
-pub fn false_answer(image: &mut [u8], s: ServerNumber, t: ViewNumber, n: MessageNumber, source: MessageNumber) -> Stepped
+pub fn false_answer(
+    image: &mut [u8],
+    s: ServerNumber,
+    t: ViewNumber,
+    n: MessageNumber,
+    source: MessageNumber,
+) -> Stepped
     requires { ⌜ Legible (now image) × (1 ≤ s .0) × (s .0 ≤ servers) × (source .0 ≤ messages) ⌝ }
     ensures { λ r. ⌜ Does r (now (image .entry)) (now (image .exit)) (lieOn (decode (now (image .entry))) (s .0) (t .0) (n .0) (source .0)) ⌝ }
 {
@@ -153,7 +161,7 @@ pub fn false_answer(image: &mut [u8], s: ServerNumber, t: ViewNumber, n: Message
         return Stepped::StepRefused(refusal);
     }
     let used = load_used(image);
-    if 1023 <= used {
+    if MESSAGES <= used {
         return Stepped::StepRefused(10);
     }
     let entry = shown_entry(image, source);

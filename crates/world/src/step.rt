@@ -7,13 +7,7 @@ ghost use Rattle.protocol.specs.Runs.{stepWidth, stepOf as stepIn};
 ghost use Rattle.codec.specs.Images.{decode};
 ghost use Rattle.consistency.specs.Steps.{stepOn};
 ghost use Rattle.world.specs.Images.{Legible, Does};
-use codec::layout::IMAGE;
-use codec::records::read_step;
-use codec::layout::STEP;
-use image::readable::readable;
-use protocol::ServerNumber;
-use protocol::Step;
-use protocol::View;
+use super::Stepped;
 use super::clients::begins;
 use super::fields::fields_fit;
 use super::servers::deliver;
@@ -21,7 +15,13 @@ use super::servers::false_answer;
 use super::servers::fault;
 use super::take::take;
 use super::views::new_view;
-use super::Stepped;
+use codec::layout::IMAGE;
+use codec::layout::STEP;
+use codec::records::read_step;
+use image::readable::readable;
+use protocol::ServerNumber;
+use protocol::Step;
+use protocol::View;
 
 // "1 write ... 2 read ... 3 deliver ... 4 take ... 5 fault ... 6 false answer ... 7 new view"
 fn perform(image: &mut [u8], st: Step) -> Stepped

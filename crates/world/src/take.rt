@@ -14,6 +14,11 @@ use super::Stepped;
 use super::mail::present;
 use super::mail::request;
 use super::mail::send;
+use codec::layout::ANSWER;
+use codec::layout::END;
+use codec::layout::MESSAGES;
+use codec::layout::START;
+use codec::layout::WRITE;
 use codec::places::load_administrator;
 use codec::places::load_client;
 use codec::places::load_message;
@@ -72,7 +77,7 @@ fn taken_with(image: &[u8], k: MessageNumber, size: u32) -> Taken
     let q = load_message(image, r);
     let head = q.next;
     let own = first_answer(m);
-    let gathered = tally(image, t, head, 1023, own);
+    let gathered = tally(image, t, head, MESSAGES, own);
     closes(gathered, size)
 }
 
@@ -116,7 +121,7 @@ fn is_open(image: &[u8], r: MessageNumber, q: Message) -> bool
     ensures { λ b. ⌜ b ≡ open? (decode (now (image .entry))) (r .0) ⌝ }
 {
     let number = r.0;
-    if q.kind == 3 {
+    if q.kind == END {
         let a = load_administrator(image);
         let ending = a.ending;
         let end = end_of(ending);
@@ -137,11 +142,11 @@ fn write_next(image: &mut [u8], k: MessageNumber, c: u8, a: Client) -> Stepped
     ensures { λ r. ⌜ Does r (now (image .entry)) (now (image .exit)) (wrote (decode (now (image .entry))) (k .0) c a) ⌝ }
 {
     let used = load_used(image);
-    if 1023 <= used {
+    if MESSAGES <= used {
         return Stepped::StepRefused(10);
     }
     let entry = a.entry;
-    let write = request(2, c, ViewNumber(0), entry);
+    let write = request(WRITE, c, ViewNumber(0), entry);
     link(image, k);
     store_client(image, c, a);
     send(image, MessageNumber(used + 1), write);
@@ -193,7 +198,7 @@ fn start_view(image: &mut [u8], k: MessageNumber, e: Entry) -> Stepped
     ensures { λ r. ⌜ Does r (now (image .entry)) (now (image .exit)) (starts (decode (now (image .entry))) (k .0) e) ⌝ }
 {
     let used = load_used(image);
-    if 1023 <= used {
+    if MESSAGES <= used {
         return Stepped::StepRefused(10);
     }
     let before = load_administrator(image);
@@ -201,7 +206,7 @@ fn start_view(image: &mut [u8], k: MessageNumber, e: Entry) -> Stepped
         return Stepped::StepRefused(3);
     };
     let t = a.newest;
-    let start = request(4, 0, t, e);
+    let start = request(START, 0, t, e);
     link(image, k);
     store_administrator(image, a);
     send(image, MessageNumber(used + 1), start);
@@ -241,7 +246,7 @@ pub fn take(image: &mut [u8], k: MessageNumber) -> Stepped
         return Stepped::StepRefused(5);
     }
     let m = load_message(image, k);
-    if m.kind != 5 {
+    if m.kind != ANSWER {
         return Stepped::StepRefused(5);
     }
     if m.taken {
@@ -253,7 +258,7 @@ pub fn take(image: &mut [u8], k: MessageNumber) -> Stepped
     if !open {
         return Stepped::StepRefused(7);
     }
-    if q.kind == 3 {
+    if q.kind == END {
         return take_end(image, k);
     }
     take_client(image, k, q.sender)

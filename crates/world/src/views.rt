@@ -5,6 +5,8 @@ ghost use Rattle.world.specs.Images.{Legible, Does};
 use super::Stepped;
 use super::mail::request;
 use super::mail::send;
+use codec::layout::END;
+use codec::layout::MESSAGES;
 use codec::places::load_administrator;
 use codec::places::load_used;
 use codec::places::store_administrator;
@@ -31,10 +33,10 @@ pub fn new_view(image: &mut [u8], v: View) -> Stepped
     match called {
         Called::CallRefused(n) => Stepped::StepRefused(n),
         Called::Calling(a) => {
-            if 1023 <= used {
+            if MESSAGES <= used {
                 return Stepped::StepRefused(10);
             }
-            let end = request(3, 0, newest, empty);
+            let end = request(END, 0, newest, empty);
             store_administrator(image, a);
             store_view(image, ViewNumber(t + 1), v);
             send(image, MessageNumber(used + 1), end);

@@ -15,7 +15,6 @@ use Rattle.protocol.specs.Entries.{countOf, writerOf, below, larger, lar
 use Rattle.protocol.specs.Laws.Tests.{and-left, and-right, or-cases, clash}
 
 infix 50 _≼_
-
 -- the stamp of a is at most that of b
 pub data _≼_ (a b : Entry) : Type 0 where
   by-count : countOf a < countOf b → a ≼ b

@@ -383,12 +383,12 @@ lie-lawful {w} h s t n source a e kind =
           sound = sound-send h m l refl (λ _. q);
           moved = record {
             change = quiet w m (post w w m (h .mail) l refl refl (λ i. refl)) (λ s. refl) (λ t l. refl)
-              (record {
-                answer = λ _. record { held = y; asked = q; shows = shows w source _ (and-right (isRequest (message w n .kind)) _ k); honest = λ z. clash (and-both _ _ f y) z };
-                start = apart ANSWER START refl;
-                write = apart ANSWER WRITE refl;
-              })
-              (inl refl);
+                (record {
+                  answer = λ _. record { held = y; asked = q; shows = shows w source _ (and-right (isRequest (message w n .kind)) _ k); honest = λ z. clash (and-both _ _ f y) z };
+                  start = apart ANSWER START refl;
+                  write = apart ANSWER WRITE refl;
+                })
+                (inl refl);
             acted = idle-acted (λ c. refl);
           };
         })

@@ -306,16 +306,16 @@ module _ {w : World} {k r t : ℕ} (h : Taking w k r t) where
         seen = heard w t (takenWith w k);
         enough = leb-true _ _ e;
         vote = λ s q.
-          let f = any-found (λ j. tagged w t j && eqb (message w j .sender) s) (each-both taken-each (shown-each w t (takenWith w k))) q in
-          let g = and-left (tagged w t (f .at)) _ (f .test) in
-          record {
-            at = f .at;
-            below = f .has .0 .below;
-            is = f .has .0 .is;
-            who = eqb-true _ _ (and-right (tagged w t (f .at)) _ (f .test));
-            tag = eqb-true _ _ g;
-            fact = record { request = f .has .0 .request; covered = chosen-le (f .has .1 g) };
-          };
+            let f = any-found (λ j. tagged w t j && eqb (message w j .sender) s) (each-both taken-each (shown-each w t (takenWith w k))) q in
+            let g = and-left (tagged w t (f .at)) _ (f .test) in
+            record {
+              at = f .at;
+              below = f .has .0 .below;
+              is = f .has .0 .is;
+              who = eqb-true _ _ (and-right (tagged w t (f .at)) _ (f .test));
+              tag = eqb-true _ _ g;
+              fact = record { request = f .has .0 .request; covered = chosen-le (f .has .1 g) };
+            };
       }
 
   pub close-chosen : Chosen w t r (chosen (shown w t (takenWith w k)))

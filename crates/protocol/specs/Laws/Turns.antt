@@ -95,7 +95,7 @@ module _ {w : World} (h : Sound w) {c : ℕ} (r : IsClient c) (l : w .used < mes
         sound = sound-send (client-sound h c a) (request READ c 0 empty) l refl (apart READ ANSWER refl);
         moved = record {
           change = quiet (withClient w c a) (request READ c 0 empty) begun-post (λ s. refl) (λ t l. refl)
-            (record { answer = apart READ ANSWER refl; start = apart READ START refl; write = apart READ WRITE refl }) (inl refl);
+              (record { answer = apart READ ANSWER refl; start = apart READ START refl; write = apart READ WRITE refl }) (inl refl);
           acted = begun-acted;
         };
       }
@@ -238,8 +238,8 @@ module _ {w : World} (h : Sound w) {k r t : ℕ} (y : Taking w k r t) where
             sound = sound-send (client-sound link-sound c a) (request WRITE c 0 (a .entry)) (omega (arith, turned-used)) refl (apart WRITE ANSWER refl);
             moved = record {
               change = quiet turned (request WRITE c 0 (a .entry)) wrote-post turned-server (λ t l. turned-view t)
-                (record { answer = apart WRITE ANSWER refl; start = apart WRITE START refl; write = λ _. record { low = i .low; was = q; reading = p; writing = wrote-phase } })
-                (inl turned-newest);
+                  (record { answer = apart WRITE ANSWER refl; start = apart WRITE START refl; write = λ _. record { low = i .low; was = q; reading = p; writing = wrote-phase } })
+                  (inl turned-newest);
               acted = wrote-acted kind;
             };
           }
@@ -310,7 +310,7 @@ module _ {w : World} (h : Sound w) {k r t : ℕ} (y : Taking w k r t) where
           sound = sound-send raised-sound starting (omega (arith, raised-used)) refl (apart START ANSWER refl);
           moved = record {
             change = quiet raised starting start-post raised-server (λ t l. raised-view t)
-              (record { answer = apart START ANSWER refl; start = λ _. started; write = apart START WRITE refl }) (inr refl);
+                (record { answer = apart START ANSWER refl; start = λ _. started; write = apart START WRITE refl }) (inr refl);
             acted = idle-acted raised-client;
           };
         }
@@ -476,7 +476,7 @@ module _ {w : World} (h : Sound w) (v : View) (a : Administrator) (z : sized v �
         sound = sound-send called-sound ending (omega (arith, called-used)) refl (apart END ANSWER refl);
         moved = record {
           change = quiet called ending call-post called-server called-view
-            (record { answer = apart END ANSWER refl; start = apart END START refl; write = apart END WRITE refl }) (inl called-newest);
+              (record { answer = apart END ANSWER refl; start = apart END START refl; write = apart END WRITE refl }) (inl called-newest);
           acted = idle-acted called-client;
         };
       }

@@ -12,7 +12,7 @@ abbrev μ-loop : tie.MeasureT-loop
 μ-loop image₀ journal at₀ image at = length journal - at
 
 loop-holds : tie.Need-loop-holds Inv-loop μ-loop
-loop-holds c = 
+loop-holds c =
     let p = c .before .before .pre in
     going-start (c .before .before .args .image .now) (c .before .before .args .journal .now) (p .0) (p .1)
 
@@ -26,7 +26,7 @@ part-first-end : tie.Need-part-first-end Inv-loop μ-loop
 part-first-end c = search needs
 
 first-requires : tie.Need-first-requires Inv-loop μ-loop
-first-requires c κs = 
+first-requires c κs =
     let g = c .before .before .before .loop .inv in
     (g .legible, room (c .before .before .before .before .before .before .args .journal .now) (c .before .before .before .loop .at) (g .whole) (g .even) (c .before .before .loop-test .taken))
 

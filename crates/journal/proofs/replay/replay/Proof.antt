@@ -30,7 +30,7 @@ same-length-2 : tie.Need-same-length-2
 same-length-2 c = search needs
 
 returns-4 : tie.Need-returns-4
-returns-4 c = 
+returns-4 c =
     let e = whole-replay (c .before .before .before .before .before .before .before .before .before .before .before .args .image .now) (c .before .before .before .before .before .before .before .before .before .before .before .args .journal .now) (c .before .before .before .before .before .before .before .before .if1 .left) (c .before .before .before .before .before .before .before .if2 .left) (sym (c .before .before .before .before .before .readable .ensures) ∙ not-false (c .before .before .before .before .before .readable .result) (c .before .before .before .before .if3 .left)) in
     subst (λ (p : Played). Plays (c .before .before .play .result) (c .before .before .play .last .0) p) (sym e) (c .before .before .play .ensures)
 

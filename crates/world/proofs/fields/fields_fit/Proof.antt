@@ -74,7 +74,7 @@ both-requires-5 : tie.Need-both-requires-5
 both-requires-5 c κs = search needs
 
 returns-3 : tie.Need-returns-3
-returns-3 c = 
+returns-3 c =
     let st = c .before .before .before .before .before .before .before .before .before .before .before .before .before .before .before .before .before .before .before .before .before .before .args .st in
     c .both5 .ensures
     ∙ ap (λ (x : Bool). c .before .before .before .before .before .before .before .before .before .before .before .before .before .before .before .before .who-fits .result && x)

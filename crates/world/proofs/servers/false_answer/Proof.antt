@@ -62,7 +62,7 @@ same-length-4 : tie.Need-same-length-4
 same-length-4 c = search needs
 
 returns-4 : tie.Need-returns-4
-returns-4 c = 
+returns-4 c =
     let d = c .before .before .before .before .before .before .before .before .before .before .before .before .before .before .before .before .before .before .before .before .before .before in
     lie-done (d .pre .0) (d .args .s .0) (d .args .t .0) (d .args .n .0) (d .args .source .0) (d .pre .1) (d .pre .2) (sym (c .before .before .before .before .before .before .before .before .before .before .before .before .before .before .before .before .before .before .before .present .ensures) ∙ not-false (c .before .before .before .before .before .before .before .before .before .before .before .before .before .before .before .before .before .before .before .present .result) (c .before .before .before .before .before .before .before .before .before .before .before .before .before .before .before .before .before .before .if1 .left)) (c .before .before .before .before .before .before .before .before .before .before .before .before .before .before .before .before .load-message .result) (c .before .before .before .before .before .before .before .before .before .before .before .before .before .before .load-server .result) (c .before .before .before .before .before .before .before .before .before .before .before .before .is-source .result) (c .before .before .before .before .before .before .before .before .before .before .before .may-answer .result) (c .before .before .before .before .before .before .before .before .before .before .before .before .before .before .before .before .load-message .ensures) (c .before .before .before .before .before .before .before .before .before .before .before .before .before .before .load-server .ensures) (c .before .before .before .before .before .before .before .before .before .before .before .before .is-source .ensures) (c .before .before .before .before .before .before .before .before .before .before .before .may-answer .ensures) (c .before .before .before .before .before .before .before .before .before .before .if2 .left) (c .before .before .before .before .before .before .before .before .load-used .result) (c .before .before .before .before .before .before .before .before .load-used .ensures) _ _ (c .before .before .before .before .before .before .before .if3 .left) (c .before .before .before .before .before .shown-entry .ensures)
     (c .before .before .send .ensures ∙ ap (λ (m : Message). putSent (d .args .image .now) (c .before .before .before .before .before .before .before .before .load-used .result + 1) m) (c .before .before .before .before .answer .ensures))

@@ -25,7 +25,7 @@ same-length : tie.Need-same-length
 same-length c = search needs
 
 returns-2 : tie.Need-returns-2
-returns-2 c = 
+returns-2 c =
     by
     (ap (step (decode (c .before .before .before .before .before .before .before .before .before .args .image .now))) (sym (c .before .before .before .before .before .before .read-step .ensures))
     ∙ fit (decode (c .before .before .before .before .before .before .before .before .before .args .image .now)) (c .before .before .before .before .before .before .read-step .result) (sym (c .before .before .before .before .before .fields-fit .ensures) ∙ not-false (c .before .before .before .before .before .fields-fit .result) (c .before .before .before .before .if1 .left)))

@@ -75,7 +75,7 @@ same-length-7 : tie.Need-same-length-7
 same-length-7 c = search needs
 
 returns-7 : tie.Need-returns-7
-returns-7 c = 
+returns-7 c =
     let d = c .before .before .before .before .before .before .before .before .before in
     let r = c .before .before .before .before .match .rest in
     by (as-view (decode (d .args .image .now)) (d .args .st) (r .0 .0 .0 .0 .0 .1) (r .0 .0 .0 .0 .1) (r .0 .0 .0 .1) (r .0 .0 .1) (r .0 .1) (r .1)) (c .before .before .new-view .ensures)
