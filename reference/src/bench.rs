@@ -1,0 +1,223 @@
+//! The benchmark: the same calls on both sides by turns, in one run.
+
+use std::hint::black_box;
+use std::time::{Duration, Instant};
+
+use crate::compare::library::{Library, Reference};
+use crate::generate::journals::journal;
+use crate::generate::profile::{Profile, FULL, WIDE};
+use crate::layout::{IMAGE_SIZE, LAST_MESSAGE, STEP_SIZE};
+use crate::operations::{fresh, replay};
+use crate::rules::Sound;
+
+/// How often each row is measured on each side; odd, so that a median is one of
+/// the measurements.
+pub const ROUNDS: usize = 31;
+
+/// A row of the table: nanoseconds for one unit on each side, and the library's
+/// time as a part of the reference's in the same round. Each is a median.
+pub struct Row {
+    pub what: &'static str,
+    pub unit: &'static str,
+    pub reference: f64,
+    pub library: f64,
+    pub ratio: f64,
+}
+
+/// A journal that uses every message number, with its fresh image and the image
+/// after it.
+struct Full {
+    fresh: Vec<u8>,
+    journal: Vec<u8>,
+    after: Vec<u8>,
+}
+
+impl Full {
+    fn steps(&self) -> usize {
+        self.journal.len() / STEP_SIZE
+    }
+}
+
+/// The first journals of this profile that use every message number.
+fn full_journals(profile: &Profile, count: usize) -> Vec<Full> {
+    (0..)
+        .filter_map(|seed| full_journal(seed, profile))
+        .take(count)
+        .collect()
+}
+
+fn full_journal(seed: u64, profile: &Profile) -> Option<Full> {
+    let drawn = journal::<Sound>(seed, profile);
+    let mut image = vec![0; IMAGE_SIZE];
+    fresh(&mut image, drawn.members, drawn.f).expect("a journal begins with a fresh world");
+    let full = Full {
+        fresh: image.clone(),
+        journal: drawn.bytes(),
+        after: {
+            let replayed = replay(&mut image, &drawn.bytes());
+            assert!(
+                replayed.stopped.is_none(),
+                "a journal without odd steps is accepted"
+            );
+            image
+        },
+    };
+    let used = u16::from_le_bytes([full.after[2], full.after[3]]);
+    (used == LAST_MESSAGE).then_some(full)
+}
+
+/// All rows, the library against the reference.
+pub fn rows(library: &dyn Library) -> Vec<Row> {
+    let full = full_journals(&FULL, 8);
+    let wide = full_journals(&WIDE, 8);
+    vec![
+        row(library, "replay of full journals", "step", |side| {
+            replays(side, &full)
+        }),
+        row(
+            library,
+            "replay of full journals, 32 servers",
+            "step",
+            |side| replays(side, &wide),
+        ),
+        row(
+            library,
+            "single step, readable test included",
+            "step",
+            |side| steps(side, &full[..2]),
+        ),
+        row(library, "fresh world", "call", fresh_worlds),
+        row(
+            library,
+            "readable test alone (premise, full image)",
+            "call",
+            |side| premises(side, &full),
+        ),
+        row(
+            library,
+            "readable test alone (premise, fresh image)",
+            "call",
+            |side| premises_of_fresh(side, &full),
+        ),
+    ]
+}
+
+/// Time spent, and on how many units.
+type Spent = (Duration, usize);
+
+/// Measures both sides by turns.
+fn row(
+    library: &dyn Library,
+    what: &'static str,
+    unit: &'static str,
+    measure: impl Fn(&dyn Library) -> Spent,
+) -> Row {
+    let mut ours = Vec::new();
+    let mut theirs = Vec::new();
+    // One round of each to warm up, which is not counted.
+    measure(&Reference);
+    measure(library);
+    for _ in 0..ROUNDS {
+        ours.push(per_unit(measure(&Reference)));
+        theirs.push(per_unit(measure(library)));
+    }
+    // The sides of one round met the same load of the machine.
+    let ratios = ours.iter().zip(&theirs).map(|(our, their)| their / our);
+    Row {
+        what,
+        unit,
+        ratio: median(ratios.collect()),
+        reference: median(ours),
+        library: median(theirs),
+    }
+}
+
+fn per_unit((time, units): Spent) -> f64 {
+    time.as_nanos() as f64 / units as f64
+}
+
+fn median(mut times: Vec<f64>) -> f64 {
+    times.sort_by(f64::total_cmp);
+    times[times.len() / 2]
+}
+
+/// Each journal on its fresh image; copying the image is not timed.
+fn replays(side: &dyn Library, journals: &[Full]) -> Spent {
+    let mut spent = Duration::ZERO;
+    let mut steps = 0;
+    let mut image = vec![0; IMAGE_SIZE];
+    for full in journals {
+        image.copy_from_slice(&full.fresh);
+        let begin = Instant::now();
+        let answer = side.replay(black_box(&mut image), black_box(&full.journal));
+        spent += begin.elapsed();
+        assert_eq!(answer, 256 * full.steps() as u64, "every step is accepted");
+        assert!(image == full.after, "the journal leads to the same image");
+        steps += full.steps();
+    }
+    (spent, steps)
+}
+
+/// Each journal step by step, with the image tested at every one.
+fn steps(side: &dyn Library, journals: &[Full]) -> Spent {
+    let mut spent = Duration::ZERO;
+    let mut steps = 0;
+    for full in journals {
+        let mut image = full.fresh.clone();
+        let begin = Instant::now();
+        for step in full.journal.chunks_exact(STEP_SIZE) {
+            let answer = side.step(black_box(&mut image), black_box(step));
+            assert_eq!(answer % 256, 0, "every step is accepted");
+        }
+        spent += begin.elapsed();
+        assert!(image == full.after, "the journal leads to the same image");
+        steps += full.steps();
+    }
+    (spent, steps)
+}
+
+/// Fresh worlds over a buffer that holds one already.
+fn fresh_worlds(side: &dyn Library) -> Spent {
+    const CALLS: usize = 500;
+    let mut image = vec![0; IMAGE_SIZE];
+    let begin = Instant::now();
+    for number in 0..CALLS {
+        let members = black_box(0xffff_ffff >> (number % 16));
+        let answer = side.fresh(black_box(&mut image), members, black_box(1));
+        assert_eq!(answer, 0, "the world is accepted");
+    }
+    (begin.elapsed(), CALLS)
+}
+
+fn premises(side: &dyn Library, journals: &[Full]) -> Spent {
+    timed_premises(side, journals, |full| &full.after)
+}
+
+fn premises_of_fresh(side: &dyn Library, journals: &[Full]) -> Spent {
+    timed_premises(side, journals, |full| &full.fresh)
+}
+
+fn timed_premises(side: &dyn Library, journals: &[Full], image: impl Fn(&Full) -> &[u8]) -> Spent {
+    const CALLS: usize = 50;
+    let begin = Instant::now();
+    for full in journals {
+        for _ in 0..CALLS {
+            let answer = side.premise(black_box(image(full)));
+            assert_eq!(answer % 256, 0, "the image is readable");
+        }
+    }
+    (begin.elapsed(), journals.len() * CALLS)
+}
+
+/// The table, as Markdown.
+pub fn table(rows: &[Row]) -> String {
+    let mut text = String::from("| what | unit | reference | library | ratio |\n");
+    text += "|---|---|---:|---:|---:|\n";
+    for row in rows {
+        text += &format!(
+            "| {} | {} | {:.1} ns | {:.1} ns | {:.2} |\n",
+            row.what, row.unit, row.reference, row.library, row.ratio,
+        );
+    }
+    text
+}

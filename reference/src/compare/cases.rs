@@ -1,0 +1,250 @@
+//! The calls that are compared: single steps on images of every sort, and
+//! whole journals.
+
+use crate::codec::image_of;
+use crate::compare::check::Comparison;
+use crate::generate::journals::journal;
+use crate::generate::profile::{Profile, PROFILES};
+use crate::generate::specimen::specimen;
+use crate::generate::spoils::{change_byte, spoiled};
+use crate::generate::steps::{aimed_start, aimed_step, aimed_step_of, odd_step};
+use crate::generate::worlds::world;
+use crate::layout::{IMAGE_SIZE, STEP_SIZE};
+use crate::readable::Clause;
+use crate::record::{step_kind, Step};
+use crate::rules::Sound;
+use crate::step::step;
+use crate::world::World;
+use crate::xorshift::Draws;
+
+/// Journals in a run of the least size.
+pub const JOURNALS: usize = 300;
+/// Single steps in a run of the least size.
+pub const STEPS: usize = 20_000;
+
+/// All cases, for at least this many single steps and journals.
+pub fn run_all(comparison: &mut Comparison, steps: usize, journals: usize, seed: u64) {
+    let mut draws = Draws::new(seed);
+    quorum_sizes(comparison);
+    fresh_worlds(comparison, &mut draws, steps / 20);
+    every_clause(comparison, &mut draws);
+    whole_journals(comparison, &mut draws, journals);
+    let before = comparison.steps;
+    while comparison.steps - before < steps as u64 {
+        // Images from runs, and images from nowhere.
+        steps_along_a_run(comparison, &mut draws, 200);
+        steps_on_drawn_worlds(comparison, &mut draws, 150);
+        closes_on_drawn_worlds(comparison, &mut draws, 100);
+    }
+}
+
+fn quorum_sizes(comparison: &mut Comparison) {
+    let edges = [
+        255,
+        256,
+        0x5555_5555,
+        0x5555_5556,
+        0x7fff_ffff,
+        0x8000_0000,
+        u32::MAX - 1,
+        u32::MAX,
+    ];
+    let sizes: Vec<u32> = (0..=40).chain(edges).collect();
+    for n in &sizes {
+        for f in &sizes {
+            comparison.quorum(*n, *f);
+        }
+    }
+}
+
+/// Fresh worlds over buffers that hold something, of right and wrong length.
+fn fresh_worlds(comparison: &mut Comparison, draws: &mut Draws, count: usize) {
+    for _ in 0..count {
+        let length = if draws.chance(10) {
+            wrong_length(draws)
+        } else {
+            IMAGE_SIZE
+        };
+        let byte = draws.word() as u8;
+        let n = draws.between(0, 32);
+        let members = draws.bits(n, 32);
+        let f = match draws.below(4) {
+            0 => draws.below(256),
+            1 => n.div_ceil(3),
+            _ => n.saturating_sub(1) / 3,
+        };
+        comparison.fresh(&vec![byte; length], members, f as u8);
+    }
+}
+
+/// Lengths near the right one, and far from it.
+fn wrong_length(draws: &mut Draws) -> usize {
+    match draws.below(6) {
+        0 => 0,
+        1 => IMAGE_SIZE - 1,
+        2 => IMAGE_SIZE + 1,
+        3 => STEP_SIZE,
+        4 => 2 * IMAGE_SIZE,
+        _ => draws.below(IMAGE_SIZE),
+    }
+}
+
+/// The specimen, and the specimen spoiled against each clause in turn.
+fn every_clause(comparison: &mut Comparison, draws: &mut Draws) {
+    let whole = specimen();
+    let spoiled = Clause::ALL.iter().flat_map(|clause| spoiled(*clause));
+    for world in std::iter::once(specimen()).chain(spoiled) {
+        let image = image_of(&world);
+        comparison.premise(&image[..]);
+        comparison.replay(&image[..], &[]);
+        comparison.step(&image[..], &aimed_step(&whole, draws).bytes());
+    }
+}
+
+/// Worlds that no run reaches, a few steps on each.
+fn steps_on_drawn_worlds(comparison: &mut Comparison, draws: &mut Draws, count: usize) {
+    for _ in 0..count / 4 {
+        let world = world(draws);
+        comparison.premise(&image_of(&world)[..]);
+        for _ in 0..4 {
+            one_step(comparison, draws, &world);
+        }
+    }
+}
+
+/// Worlds that no run reaches, and on each some answers to take and a START:
+/// the steps with the most ways to go.
+fn closes_on_drawn_worlds(comparison: &mut Comparison, draws: &mut Draws, count: usize) {
+    for _ in 0..count / 5 {
+        let world = world(draws);
+        let image = image_of(&world);
+        for _ in 0..4 {
+            let take = aimed_step_of(step_kind::TAKE, &world, draws);
+            comparison.step(&image[..], &take.bytes());
+        }
+        if let Some(start) = aimed_start(&world, draws) {
+            comparison.step(&image[..], &start.bytes());
+        }
+    }
+}
+
+/// Images along a drawn run, at places where steps are then tried.
+fn steps_along_a_run(comparison: &mut Comparison, draws: &mut Draws, count: usize) {
+    let profile = *draws.pick(&PROFILES).expect("there are profiles");
+    let journal = journal::<Sound>(draws.word(), profile);
+    let mut world = World::fresh(journal.members, journal.f).expect("the journal's world");
+    let every = journal.steps.len().max(1).div_ceil(count / 2);
+    for (place, bytes) in journal.steps.iter().enumerate() {
+        if place % every == 0 {
+            comparison.step(&image_of(&world)[..], bytes);
+            one_step(comparison, draws, &world);
+        }
+        if let Ok(bytes) = bytes.as_slice().try_into() {
+            // Odd steps of a journal may be refused; they change nothing then.
+            let _ = step::<Sound>(&mut world, &Step::load(bytes));
+        }
+    }
+    comparison.premise(&image_of(&world)[..]);
+}
+
+/// A step on this world's image, or on what is left of it: one byte changed, or
+/// a wrong length.
+fn one_step(comparison: &mut Comparison, draws: &mut Draws, world: &World) {
+    let mut image = image_of(world);
+    let bytes = if draws.chance(70) {
+        aimed_step(world, draws).bytes().to_vec()
+    } else {
+        odd_step(world, draws)
+    };
+    match draws.below(20) {
+        0 => {
+            let mut image = image.to_vec();
+            image.resize(wrong_length(draws), 0);
+            comparison.step(&image, &bytes);
+            comparison.premise(&image);
+        }
+        1..=4 => {
+            change_byte(&mut image, world.header.used, draws);
+            comparison.step(&image[..], &bytes);
+            comparison.premise(&image[..]);
+        }
+        _ => {
+            comparison.step(&image[..], &bytes);
+        }
+    }
+}
+
+/// Journals from fresh worlds, with and without odd steps, whole, in parts, on
+/// spoiled images and cut short.
+fn whole_journals(comparison: &mut Comparison, draws: &mut Draws, count: usize) {
+    for number in 0..count {
+        let profile = PROFILES[number % PROFILES.len()];
+        let odd = number % 3 == 0;
+        one_journal(comparison, draws, &with_odd(profile, odd));
+        comparison.journals += 1;
+        if number % 10 == 0 {
+            journal_on_drawn_world(comparison, draws);
+        }
+    }
+}
+
+/// The profile with its odd steps, or without.
+fn with_odd(profile: &Profile, odd: bool) -> Profile {
+    let mut weights = profile.weights;
+    weights[8] = u32::from(odd);
+    Profile {
+        weights,
+        ..profile.clone()
+    }
+}
+
+fn one_journal(comparison: &mut Comparison, draws: &mut Draws, profile: &Profile) {
+    let mut journal = journal::<Sound>(draws.word(), profile);
+    // A replay takes whole steps only; others are tried at its end.
+    journal.steps.retain(|step| step.len() == STEP_SIZE);
+    let bytes = journal.bytes();
+    let fresh = comparison.fresh(&[0xff; IMAGE_SIZE], journal.members, journal.f);
+    let (whole, _) = replay_past_refusals(comparison, &fresh, &bytes);
+    let cut = draws.below(bytes.len() / STEP_SIZE + 1) * STEP_SIZE;
+    let (part, _) = replay_past_refusals(comparison, &fresh, &bytes[..cut]);
+    let (parts, _) = replay_past_refusals(comparison, &part, &bytes[cut..]);
+    comparison.same_end(&parts, &whole, "a journal in two parts");
+    let short = draws.below(bytes.len() + 1);
+    comparison.replay(&fresh, &bytes[..short]);
+    if draws.chance(20) {
+        comparison.replay(&whole[..draws.below(IMAGE_SIZE)], &bytes);
+        let mut image = *image_of(&specimen());
+        change_byte(&mut image, specimen().header.used, draws);
+        comparison.replay(&image, &bytes);
+    }
+}
+
+/// Replays the journal; after each stop the refused step is tried again, then
+/// left out and the rest replayed on the same image.
+fn replay_past_refusals(
+    comparison: &mut Comparison,
+    image: &[u8],
+    journal: &[u8],
+) -> (Vec<u8>, usize) {
+    let (mut after, mut done) = comparison.replay(image, journal);
+    let mut rest = &journal[done * STEP_SIZE..];
+    while rest.len() >= STEP_SIZE {
+        comparison.step(&after, &rest[..STEP_SIZE]);
+        rest = &rest[STEP_SIZE..];
+        let (next, more) = comparison.replay(&after, rest);
+        after = next;
+        done += more;
+        rest = &rest[more * STEP_SIZE..];
+    }
+    (after, done)
+}
+
+/// A handful of aimed steps on a world that no run reaches.
+fn journal_on_drawn_world(comparison: &mut Comparison, draws: &mut Draws) {
+    let world = world(draws);
+    let mut bytes = Vec::new();
+    for _ in 0..draws.between(1, 20) {
+        bytes.extend(aimed_step(&world, draws).bytes());
+    }
+    replay_past_refusals(comparison, &image_of(&world)[..], &bytes);
+}

@@ -1,0 +1,225 @@
+//! One call to both sides, compared: the answer, the image after it and every
+//! byte around the image and the step.
+
+use crate::codec::decode;
+use crate::compare::counts::{Counts, Operation};
+use crate::compare::library::{pack, pack_result, Library};
+use crate::operations;
+use crate::quorum::quorum_size;
+use crate::readable::broken;
+use crate::refusal::Reason;
+
+/// Bytes before and after a lent buffer, which nobody may write.
+const MARGIN: usize = 64;
+const MARK: u8 = 0xa5;
+
+/// How many differences are told in words.
+const TOLD: usize = 20;
+
+/// A buffer with margins, so that writing beside it shows.
+struct Lent {
+    bytes: Vec<u8>,
+}
+
+impl Lent {
+    fn new(content: &[u8]) -> Lent {
+        let mut bytes = vec![MARK; content.len() + 2 * MARGIN];
+        bytes[MARGIN..MARGIN + content.len()].copy_from_slice(content);
+        Lent { bytes }
+    }
+
+    fn content(&mut self) -> &mut [u8] {
+        let end = self.bytes.len() - MARGIN;
+        &mut self.bytes[MARGIN..end]
+    }
+
+    fn margins_whole(&self) -> bool {
+        let (before, rest) = self.bytes.split_at(MARGIN);
+        let after = &rest[rest.len() - MARGIN..];
+        before.iter().chain(after).all(|byte| *byte == MARK)
+    }
+}
+
+/// Compares a library with the reference and keeps the score.
+pub struct Comparison<'a> {
+    library: &'a dyn Library,
+    pub counts: Counts,
+    pub passed: u64,
+    pub failed: u64,
+    pub steps: u64,
+    pub journals: u64,
+    pub replays: u64,
+    /// The first differences, in words.
+    pub told: Vec<String>,
+}
+
+impl<'a> Comparison<'a> {
+    pub fn new(library: &'a dyn Library) -> Comparison<'a> {
+        Comparison {
+            library,
+            counts: Counts::default(),
+            passed: 0,
+            failed: 0,
+            steps: 0,
+            journals: 0,
+            replays: 0,
+            told: Vec::new(),
+        }
+    }
+
+    fn score(&mut self, good: bool, what: impl FnOnce() -> String) {
+        if good {
+            self.passed += 1;
+            return;
+        }
+        self.failed += 1;
+        if self.told.len() < TOLD {
+            self.told.push(what());
+        }
+    }
+
+    /// The reference has written to `ours`; the library's call goes to a copy of
+    /// what was there before.
+    fn compare_image(
+        &mut self,
+        before: &[u8],
+        ours: &[u8],
+        answer: u64,
+        what: &str,
+        call: impl FnOnce(&dyn Library, &mut [u8]) -> u64,
+    ) {
+        let mut lent = Lent::new(before);
+        let theirs = call(self.library, lent.content());
+        let margins = lent.margins_whole();
+        let differs = lent.content().iter().zip(ours).position(|(a, b)| a != b);
+        self.score(theirs == answer && differs.is_none() && margins, || {
+            format!(
+                "{what}: answer {}, the reference {}; first byte that differs: {differs:?}{}",
+                unpacked(theirs),
+                unpacked(answer),
+                if margins {
+                    ""
+                } else {
+                    "; bytes beside the image were written"
+                },
+            )
+        });
+    }
+
+    pub fn quorum(&mut self, n: u32, f: u32) {
+        let ours = quorum_size(n, f);
+        match ours {
+            Ok(_) => self.counts.accept(Operation::Quorum),
+            Err(reason) => self.counts.refuse(Operation::Quorum, reason),
+        }
+        let ours = pack_result(ours.map(u64::from));
+        let theirs = self.library.quorum(n, f);
+        self.score(theirs == ours, || {
+            format!(
+                "quorum({n}, {f}): {}, the reference {}",
+                unpacked(theirs),
+                unpacked(ours)
+            )
+        });
+    }
+
+    /// A fresh world over this buffer; the buffer after it.
+    pub fn fresh(&mut self, buffer: &[u8], members: u32, f: u8) -> Vec<u8> {
+        let mut after = buffer.to_vec();
+        let ours = operations::fresh(&mut after, members, f);
+        match ours {
+            Ok(()) => self.counts.accept(Operation::Fresh),
+            Err(reason) => self.counts.refuse(Operation::Fresh, reason),
+        }
+        let what = format!("fresh({} bytes, {members:#x}, {f})", buffer.len());
+        let answer = pack_result(ours.map(|()| 0));
+        self.compare_image(buffer, &after, answer, &what, |library, image| {
+            library.fresh(image, members, f)
+        });
+        after
+    }
+
+    /// One step on this image; the image after it.
+    pub fn step(&mut self, image: &[u8], step: &[u8]) -> Vec<u8> {
+        self.steps += 1;
+        let operation = Operation::of_step(step);
+        let mut after = image.to_vec();
+        let ours = operations::step(&mut after, step);
+        match ours {
+            Ok(done) => {
+                self.counts.accept(operation);
+                self.counts.did(done.deed);
+            }
+            Err(reason) => self.counts.refuse(operation, reason),
+        }
+        let what = format!("step {step:?} ({ours:?})");
+        let answer = pack_result(ours.map(|done| u64::from(done.completed)));
+        let mut lent = Lent::new(step);
+        let expected = lent.bytes.clone();
+        self.compare_image(image, &after, answer, &what, |library, image| {
+            library.step(image, lent.content())
+        });
+        self.unwritten(&lent, &expected, &what);
+        after
+    }
+
+    /// The premise of this image.
+    pub fn premise(&mut self, image: &[u8]) {
+        let ours = operations::premise(image);
+        match ours {
+            Ok(_) => self.counts.accept(Operation::Premise),
+            Err(reason) => self.counts.refuse(Operation::Premise, reason),
+        }
+        if ours == Err(Reason::Unreadable) {
+            self.count_clauses(image);
+        }
+        let what = format!("premise ({ours:?})");
+        let answer = pack_result(ours.map(u64::from));
+        self.compare_image(image, image, answer, &what, |library, image| {
+            library.premise(image)
+        });
+    }
+
+    fn count_clauses(&mut self, image: &[u8]) {
+        let image = image
+            .try_into()
+            .expect("an unreadable image has the right length");
+        self.counts.unreadable(&broken(&decode(image)));
+    }
+
+    /// A journal on this image; the image after it, and the steps done.
+    pub fn replay(&mut self, image: &[u8], journal: &[u8]) -> (Vec<u8>, usize) {
+        self.replays += 1;
+        let mut after = image.to_vec();
+        let ours = operations::replay(&mut after, journal);
+        match ours.stopped {
+            None => self.counts.accept(Operation::Replay),
+            Some(reason) => self.counts.refuse(Operation::Replay, reason),
+        }
+        let what = format!("replay of {} bytes ({ours:?})", journal.len());
+        let answer = pack(ours.refusal(), ours.done as u64);
+        let mut lent = Lent::new(journal);
+        let expected = lent.bytes.clone();
+        self.compare_image(image, &after, answer, &what, |library, image| {
+            library.replay(image, lent.content())
+        });
+        self.unwritten(&lent, &expected, &what);
+        (after, ours.done)
+    }
+
+    /// A buffer that is only lent to be read is as it was.
+    fn unwritten(&mut self, lent: &Lent, expected: &[u8], what: &str) {
+        if lent.bytes != expected {
+            self.score(false, || format!("{what}: the step's bytes were written"));
+        }
+    }
+
+    /// A comparison of two images that ought to be equal.
+    pub fn same_end(&mut self, one: &[u8], other: &[u8], what: &str) {
+        self.score(one == other, || format!("{what}: other bytes"));
+    }
+}
+
+fn unpacked(answer: u64) -> String {
+    format!("{} with {}", answer % 256, answer / 256)
+}

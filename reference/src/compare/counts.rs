@@ -1,0 +1,119 @@
+//! What the compared calls met: refusals by operation and by path, and what
+//! the accepted steps did.
+
+use std::collections::BTreeMap;
+
+use crate::readable::Clause;
+use crate::record::step_kind;
+use crate::refusal::Reason;
+use crate::step::Deed;
+
+/// A public operation; steps are told apart by kind.
+#[derive(Clone, Copy, Debug, PartialEq, Eq, PartialOrd, Ord)]
+pub enum Operation {
+    Fresh,
+    Quorum,
+    Write,
+    Read,
+    Deliver,
+    Take,
+    Fault,
+    FalseAnswer,
+    NewView,
+    /// A step of a kind that does not exist, or of no byte at all.
+    OtherKind,
+    Premise,
+    Replay,
+}
+
+pub const OPERATIONS: [Operation; 12] = [
+    Operation::Fresh,
+    Operation::Quorum,
+    Operation::Write,
+    Operation::Read,
+    Operation::Deliver,
+    Operation::Take,
+    Operation::Fault,
+    Operation::FalseAnswer,
+    Operation::NewView,
+    Operation::OtherKind,
+    Operation::Premise,
+    Operation::Replay,
+];
+
+impl Operation {
+    /// The operation that a step of these bytes asks for.
+    pub fn of_step(bytes: &[u8]) -> Operation {
+        match bytes.first() {
+            Some(&step_kind::WRITE) => Operation::Write,
+            Some(&step_kind::READ) => Operation::Read,
+            Some(&step_kind::DELIVER) => Operation::Deliver,
+            Some(&step_kind::TAKE) => Operation::Take,
+            Some(&step_kind::FAULT) => Operation::Fault,
+            Some(&step_kind::FALSE_ANSWER) => Operation::FalseAnswer,
+            Some(&step_kind::NEW_VIEW) => Operation::NewView,
+            _ => Operation::OtherKind,
+        }
+    }
+}
+
+/// The last refusal's number.
+pub const LAST_REFUSAL: u8 = 11;
+
+/// Counts of what was met.
+#[derive(Clone, Debug, Default)]
+pub struct Counts {
+    pub accepted: BTreeMap<Operation, u64>,
+    pub refused: BTreeMap<(Operation, Reason), u64>,
+    pub deeds: BTreeMap<Deed, u64>,
+    /// Unreadable images that one clause alone refuses, by that clause.
+    pub clauses: BTreeMap<Clause, u64>,
+}
+
+impl Counts {
+    pub fn accept(&mut self, operation: Operation) {
+        *self.accepted.entry(operation).or_default() += 1;
+    }
+
+    pub fn refuse(&mut self, operation: Operation, reason: Reason) {
+        *self.refused.entry((operation, reason)).or_default() += 1;
+    }
+
+    pub fn did(&mut self, deed: Deed) {
+        *self.deeds.entry(deed).or_default() += 1;
+    }
+
+    /// An image was unreadable by these clauses.
+    pub fn unreadable(&mut self, broken: &[Clause]) {
+        if let [alone] = broken {
+            *self.clauses.entry(*alone).or_default() += 1;
+        }
+    }
+
+    /// How often an operation met this refusal; number 0 is acceptance.
+    pub fn of(&self, operation: Operation, number: u8) -> u64 {
+        if number == 0 {
+            return self.accepted.get(&operation).copied().unwrap_or(0);
+        }
+        self.refused
+            .iter()
+            .filter(|((met, reason), _)| *met == operation && reason.number() == number)
+            .map(|(_, count)| count)
+            .sum()
+    }
+
+    /// How often all operations together met it.
+    pub fn total(&self, number: u8) -> u64 {
+        OPERATIONS
+            .iter()
+            .map(|operation| self.of(*operation, number))
+            .sum()
+    }
+
+    /// The refusals that were met fewer times than asked.
+    pub fn rare(&self, least: u64) -> Vec<u8> {
+        (1..=LAST_REFUSAL)
+            .filter(|number| self.total(*number) < least)
+            .collect()
+    }
+}

@@ -1,0 +1,59 @@
+//! The five calls that both sides answer, packed as the C interface packs
+//! them: the refusal, and 256 times the result beside it.
+
+use crate::operations;
+use crate::quorum::quorum_size;
+use crate::refusal::Reason;
+
+/// Something that answers the calls of the C interface.
+pub trait Library {
+    /// The fresh world: the refusal.
+    fn fresh(&self, image: &mut [u8], members: u32, f: u8) -> u64;
+    /// The quorum's size: the refusal, and the size.
+    fn quorum(&self, n: u32, f: u32) -> u64;
+    /// One step: the refusal, and the client whose operation completed, or 0.
+    fn step(&self, image: &mut [u8], step: &[u8]) -> u64;
+    /// The premise: the refusal, and 1 if it holds.
+    fn premise(&self, image: &[u8]) -> u64;
+    /// A journal: the refusal, and the steps done.
+    fn replay(&self, image: &mut [u8], journal: &[u8]) -> u64;
+}
+
+/// The refusal and the result in one number.
+pub fn pack(refusal: u8, result: u64) -> u64 {
+    u64::from(refusal) + 256 * result
+}
+
+/// The packed answer of a call that has a result only if it is not refused.
+pub fn pack_result(answer: Result<u64, Reason>) -> u64 {
+    match answer {
+        Ok(result) => pack(0, result),
+        Err(reason) => pack(reason.number(), 0),
+    }
+}
+
+/// The reference itself as such a library.
+pub struct Reference;
+
+impl Library for Reference {
+    fn fresh(&self, image: &mut [u8], members: u32, f: u8) -> u64 {
+        pack_result(operations::fresh(image, members, f).map(|()| 0))
+    }
+
+    fn quorum(&self, n: u32, f: u32) -> u64 {
+        pack_result(quorum_size(n, f).map(u64::from))
+    }
+
+    fn step(&self, image: &mut [u8], step: &[u8]) -> u64 {
+        pack_result(operations::step(image, step).map(|done| u64::from(done.completed)))
+    }
+
+    fn premise(&self, image: &[u8]) -> u64 {
+        pack_result(operations::premise(image).map(u64::from))
+    }
+
+    fn replay(&self, image: &mut [u8], journal: &[u8]) -> u64 {
+        let replayed = operations::replay(image, journal);
+        pack(replayed.refusal(), replayed.done as u64)
+    }
+}

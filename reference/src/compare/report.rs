@@ -1,0 +1,108 @@
+//! The comparison's result in words and numbers.
+
+use std::fmt::Write;
+
+use crate::compare::check::Comparison;
+use crate::compare::counts::{LAST_REFUSAL, OPERATIONS};
+
+/// Every refusal must be met at least this often.
+pub const LEAST: u64 = 50;
+
+/// The tables, the differences and the last line.
+pub fn report(comparison: &Comparison) -> String {
+    let mut text = String::new();
+    refusals(comparison, &mut text);
+    paths(comparison, &mut text);
+    deeds(comparison, &mut text);
+    clauses(comparison, &mut text);
+    for told in &comparison.told {
+        line(&mut text, &format!("DIFFERS: {told}"));
+    }
+    let rare = comparison.counts.rare(LEAST);
+    for number in &rare {
+        line(
+            &mut text,
+            &format!("refusal {number} was met fewer than {LEAST} times"),
+        );
+    }
+    line(
+        &mut text,
+        &format!(
+            "{} single steps and {} journals ({} replays) compared",
+            comparison.steps, comparison.journals, comparison.replays
+        ),
+    );
+    line(
+        &mut text,
+        &format!(
+            "{} passed, {} failed",
+            comparison.passed,
+            comparison.failed + rare.len() as u64
+        ),
+    );
+    text
+}
+
+/// Whether all agree and every refusal was met often enough.
+pub fn is_good(comparison: &Comparison) -> bool {
+    comparison.failed == 0 && comparison.counts.rare(LEAST).is_empty()
+}
+
+fn line(text: &mut String, words: &str) {
+    writeln!(text, "{words}").expect("a string takes every line");
+}
+
+fn refusals(comparison: &Comparison, text: &mut String) {
+    line(text, "Answers by operation and refusal (0: done)");
+    let mut head = format!("{:12}", "");
+    for number in 0..=LAST_REFUSAL {
+        write!(head, "{number:>8}").expect("a string takes every word");
+    }
+    line(text, &head);
+    for operation in OPERATIONS {
+        let mut row = format!("{:12}", format!("{operation:?}"));
+        for number in 0..=LAST_REFUSAL {
+            let count = comparison.counts.of(operation, number);
+            write!(row, "{count:>8}").expect("a string takes every word");
+        }
+        line(text, &row);
+    }
+    let mut row = format!("{:12}", "all");
+    for number in 0..=LAST_REFUSAL {
+        write!(row, "{:>8}", comparison.counts.total(number)).expect("a string takes every word");
+    }
+    line(text, &row);
+    line(text, "");
+}
+
+fn paths(comparison: &Comparison, text: &mut String) {
+    line(text, "Refusals by path");
+    for ((operation, reason), count) in &comparison.counts.refused {
+        line(
+            text,
+            &format!(
+                "{:12}{:>3}  {:40}{count:>8}",
+                format!("{operation:?}"),
+                reason.number(),
+                format!("{reason:?}")
+            ),
+        );
+    }
+    line(text, "");
+}
+
+fn clauses(comparison: &Comparison, text: &mut String) {
+    line(text, "Unreadable images that one clause alone refuses");
+    for (clause, count) in &comparison.counts.clauses {
+        line(text, &format!("{:40}{count:>8}", format!("{clause:?}")));
+    }
+    line(text, "");
+}
+
+fn deeds(comparison: &Comparison, text: &mut String) {
+    line(text, "What the accepted single steps did");
+    for (deed, count) in &comparison.counts.deeds {
+        line(text, &format!("{:40}{count:>8}", format!("{deed:?}")));
+    }
+    line(text, "");
+}

@@ -1,0 +1,10 @@
+//! What the rules are tried on: journals of runs, readable worlds that no run
+//! reaches, spoiled images, and steps aimed at a given world.
+
+pub mod journals;
+pub mod moves;
+pub mod profile;
+pub mod specimen;
+pub mod spoils;
+pub mod steps;
+pub mod worlds;

@@ -1,0 +1,37 @@
+//! The archive's rules, written a second time from document 01, in plain Rust.
+//!
+//! It shares neither code nor tables with the proved library, so that where
+//! both agree, on many worlds and many steps, the agreement says something.
+//! The first group of modules is the rules; the second makes worlds and
+//! journals to try them on; the third looks at what came out.
+
+// The rules.
+pub mod codec;
+pub mod entry;
+pub mod layout;
+pub mod operations;
+pub mod premise;
+pub mod program;
+pub mod quorum;
+pub mod readable;
+pub mod record;
+pub mod refusal;
+pub mod rules;
+pub mod server;
+pub mod step;
+pub mod take;
+pub mod world;
+
+// Worlds and journals to try them on.
+pub mod generate;
+pub mod journal;
+pub mod script;
+pub mod sessions;
+pub mod xorshift;
+
+// What came out, and the proved library beside it.
+pub mod bench;
+pub mod compare;
+#[cfg(feature = "library")]
+pub mod exports;
+pub mod history;

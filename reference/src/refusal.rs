@@ -1,0 +1,97 @@
+//! Why a call is refused, and the number that the rules give it.
+//!
+//! The rules give one number to several situations. A reason is finer: it says
+//! by which path the number came about, so that tests can count the paths.
+
+use crate::record::Field;
+use crate::step::Close;
+
+#[derive(Clone, Copy, Debug, PartialEq, Eq, Hash, PartialOrd, Ord)]
+pub enum Reason {
+    /// 1: the image is not 21,648 bytes long.
+    ImageLength,
+    /// 1: a step is not 12 bytes long.
+    StepLength,
+    /// 1: a journal is not a multiple of 12 bytes long.
+    JournalLength,
+    /// 2: no world has this image.
+    Unreadable,
+    /// 3: no step has this kind.
+    UnknownKind,
+    /// 3: a field that the kind uses is outside its range.
+    OutOfRange(Field),
+    /// 3: a field that the kind does not use is set.
+    Unused(Field),
+    /// 4: the client has an operation open.
+    ClientBusy,
+    /// 4: the newest view is being ended already.
+    EndingAlready,
+    /// 5: the message number is not used.
+    NoSuchMessage,
+    /// 5: an answer is delivered to nobody.
+    AnswerDelivered,
+    /// 5: the message taken is not an answer.
+    NotAnAnswer,
+    /// 5: a false answer is to a START or to an answer.
+    NotARequest,
+    /// 5: the source's number is not used.
+    NoSuchSource,
+    /// 5: the source is not a WRITE.
+    SourceNotWrite,
+    /// 6: a faulty server performs no request of kind 1 to 3.
+    ServerFaulty,
+    /// 6: the server that is to turn faulty is faulty.
+    FaultyAlready,
+    /// 6: a correct server gives no false answer.
+    ServerCorrect,
+    /// 7: the server is in no view yet.
+    NoViewYet,
+    /// 7: the server has given the key of its view up.
+    KeyGivenUp,
+    /// 7: the END is that of another view.
+    EndOfOtherView,
+    /// 7: the START is for others.
+    NotAMember,
+    /// 7: the server's view is not below that of the START.
+    ViewNotBelow,
+    /// 7: the faulty server has the key of the START.
+    KeyHeldAlready,
+    /// 7: the answer was taken before.
+    TakenBefore,
+    /// 7: nobody waits for answers to its request.
+    NobodyWaits,
+    /// 8: too few servers for that many faults.
+    SizeRule,
+    /// 8: view 32 is the last.
+    LastView,
+    /// 9: the faulty server lacks the key of the view it would show.
+    LacksKey,
+    /// 10: all message numbers are used.
+    NoNumber,
+    /// 10: the close must send and all message numbers are used.
+    NoNumberToClose(Close),
+    /// 11: the closing write would need a count over 4,294,967,295.
+    CountTooLarge,
+}
+
+impl Reason {
+    /// The number that the rules give to this reason.
+    pub fn number(self) -> u8 {
+        use Reason::*;
+        match self {
+            ImageLength | StepLength | JournalLength => 1,
+            Unreadable => 2,
+            UnknownKind | OutOfRange(_) | Unused(_) => 3,
+            ClientBusy | EndingAlready => 4,
+            NoSuchMessage | AnswerDelivered | NotAnAnswer | NotARequest | NoSuchSource
+            | SourceNotWrite => 5,
+            ServerFaulty | FaultyAlready | ServerCorrect => 6,
+            NoViewYet | KeyGivenUp | EndOfOtherView | NotAMember | ViewNotBelow
+            | KeyHeldAlready | TakenBefore | NobodyWaits => 7,
+            SizeRule | LastView => 8,
+            LacksKey => 9,
+            NoNumber | NoNumberToClose(_) => 10,
+            CountTooLarge => 11,
+        }
+    }
+}

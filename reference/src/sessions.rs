@@ -1,0 +1,292 @@
+//! Sessions of the program: what is fed to it. What it must print is the
+//! reference's own output.
+
+use crate::generate::journals::journal;
+use crate::generate::profile::{Profile, FULL, RUSH, STORM};
+use crate::journal::Journal;
+use crate::layout::{LAST_MESSAGE, STEP_SIZE};
+use crate::program::run;
+use crate::record::Step;
+use crate::rules::Sound;
+use crate::script::Script;
+
+/// A session: its name and the program's input.
+pub struct Session {
+    pub name: String,
+    pub input: Vec<u8>,
+}
+
+impl Session {
+    fn new(name: &str, input: Vec<u8>) -> Session {
+        Session {
+            name: name.to_string(),
+            input,
+        }
+    }
+
+    /// What the program prints.
+    pub fn output(&self) -> String {
+        run(&self.input)
+    }
+}
+
+/// The sessions that are always written.
+pub fn sessions() -> Vec<Session> {
+    let mut sessions = vec![
+        Session::new("worked", worked().input()),
+        Session::new("retired-server", retired_server().input()),
+        Session::new("replaced-entry", replaced_entry().input()),
+        Session::new("stale-read", stale_read().input()),
+        Session::new("unfinished-write", unfinished_write().input()),
+        Session::new("many-views", drawn(33, &RUSH).input()),
+        Session::new("many-clients", drawn(182, &STORM).input()),
+        Session::new("full-year", drawn(118, &FULL).input()),
+        Session::new("full-table", full_table().input()),
+        Session::new("empty", Vec::new()),
+        Session::new("first-cut-short", worked().input()[..7].to_vec()),
+        Session::new("cut-short", cut(worked().input())),
+        Session::new(
+            "first-of-other-kind",
+            worked().input()[STEP_SIZE..].to_vec(),
+        ),
+        Session::new("first-with-who", with_byte(worked().input(), 1, 1)),
+        Session::new("first-with-source", with_byte(worked().input(), 7, 1)),
+        Session::new("no-members", Journal::new(0, 0).input()),
+        Session::new("too-few-members", Journal::new(0b111, 1).input()),
+        Session::new("world-alone", Journal::new(0b111, 0).input()),
+    ];
+    sessions.extend(refused_steps());
+    sessions
+}
+
+/// Sessions drawn from seeds, of every profile with few steps.
+pub fn drawn_sessions(seed: u64, count: u64) -> Vec<Session> {
+    (seed..seed + count)
+        .map(|seed| Session::new(&format!("drawn-{seed}"), drawn(seed, &STORM).input()))
+        .collect()
+}
+
+/// A drawn journal without its odd steps, so that nothing stops it.
+fn drawn(seed: u64, profile: &Profile) -> Journal {
+    let mut weights = profile.weights;
+    weights[8] = 0;
+    let profile = Profile {
+        weights,
+        ..profile.clone()
+    };
+    journal::<Sound>(seed, &profile)
+}
+
+fn cut(mut input: Vec<u8>) -> Vec<u8> {
+    input.truncate(input.len() - 5);
+    input
+}
+
+fn with_byte(mut input: Vec<u8>, place: usize, byte: u8) -> Vec<u8> {
+    input[place] = byte;
+    input
+}
+
+/// Document 01's session.
+pub fn worked() -> Journal {
+    Journal::new(0b1, 0)
+        .then(Step::write(1, 7))
+        .then(Step::deliver(1, 1))
+        .then(Step::take(2))
+        .then(Step::deliver(1, 3))
+        .then(Step::take(4))
+        .then(Step::read(2))
+        .then(Step::deliver(1, 5))
+        .then(Step::take(6))
+        .then(Step::deliver(1, 7))
+        .then(Step::take(8))
+}
+
+/// Server 3 never heard that its view ended. It shows the reader the replaced
+/// certificate for the 1.0 m set; the servers of the new view show the other.
+pub fn retired_server() -> Journal {
+    let mut script = Script::new(0b111, 0);
+    script.write(1, 1000, &[1, 3]);
+    script.change_view(0b11010, 0, &[1, 2], &[2, 4, 5]);
+    script.write(1, 1500, &[4, 5]);
+    script.act(Step::read(2));
+    let read = script.request(2);
+    script.exchange(read, &[3]);
+    script.exchange(read, &[2, 4]);
+    let write = script.request(2);
+    script.exchange(write, &[3]);
+    script.exchange(write, &[5, 2]);
+    // A read by the retired server and one new one does not end.
+    script.act(Step::read(3));
+    let read = script.request(3);
+    script.exchange(read, &[3, 4]);
+    // Old requests reach new servers and change nothing.
+    script.act(Step::deliver(4, 1));
+    script.journal
+}
+
+/// A faulty server shows an entry that was replaced, first to a reader, then to
+/// the administrator; within its threshold nobody is misled.
+pub fn replaced_entry() -> Journal {
+    let mut script = Script::new(0b1111, 1);
+    let old = script.write(1, 1000, &[1, 2, 3]);
+    script.write(2, 1500, &[1, 3, 4]);
+    script.act(Step::fault(1));
+    script.act(Step::read(3));
+    let read = script.request(3);
+    script.lie(1, 1, read, old);
+    script.lie(1, 1, read, 0);
+    script.exchange(read, &[2, 4]);
+    let write = script.request(3);
+    script.lie(1, 1, write, old);
+    script.exchange(write, &[2, 3]);
+    script.act(Step::new_view(0b11110, 1));
+    let end = script.world.header.end;
+    script.lie(1, 1, end, old);
+    script.exchange(end, &[2, 3]);
+    let start = script.last();
+    for server in [2, 3, 5] {
+        script.act(Step::deliver(server, start));
+    }
+    script.read(4, &[2, 3, 5]);
+    script.journal
+}
+
+/// Two faulty servers where one is allowed: the reader gets the replaced entry.
+pub fn stale_read() -> Journal {
+    let mut script = Script::new(0b1111, 1);
+    let old = script.write(1, 1000, &[1, 2, 3]);
+    script.write(1, 1500, &[1, 2, 3]);
+    script.act(Step::fault(1));
+    script.act(Step::fault(2));
+    script.act(Step::read(2));
+    for _ in 0..2 {
+        let request = script.request(2);
+        script.lie(1, 1, request, old);
+        script.lie(2, 1, request, old);
+        script.exchange(request, &[4]);
+    }
+    script.journal
+}
+
+/// A write that stops half way surfaces in a read.
+pub fn unfinished_write() -> Journal {
+    let mut script = Script::new(0b111, 0);
+    script.write(1, 1, &[1, 2]);
+    script.act(Step::write(2, 2));
+    script.exchange(script.request(2), &[2, 3]);
+    script.answer(3, script.request(2));
+    script.read(3, &[1, 2]);
+    script.read(3, &[2, 3]);
+    script.read(4, &[1, 2]);
+    script.journal
+}
+
+/// All message numbers used by answers; taking still works, until a close must
+/// send.
+fn full_table() -> Journal {
+    let mut script = Script::new(0b111, 0);
+    script.write(1, 9, &[1, 2]);
+    script.act(Step::write(2, 8));
+    script.exchange(script.request(2), &[1, 3]);
+    script.act(Step::read(3));
+    let (write, read) = (script.request(2), script.request(3));
+    let mut answers = Vec::new();
+    let mut server = 1;
+    while script.last() < LAST_MESSAGE {
+        let request = if answers.len() % 2 == 0 { write } else { read };
+        answers.push(script.answer(server, request));
+        server = server % 3 + 1;
+    }
+    // The write ends without a message.
+    script.act(Step::take(answers[0]));
+    script.act(Step::take(answers[2]));
+    // The read would have to send its WRITE.
+    script.act(Step::take(answers[1]));
+    script.journal.then(Step::take(answers[3]))
+}
+
+/// A session for each way to be refused that a short run can meet.
+fn refused_steps() -> Vec<Session> {
+    let begun = || {
+        let mut script = Script::new(0b1111, 1);
+        script.write(1, 5, &[1, 2, 3]);
+        script
+    };
+    let ending = || {
+        let mut script = begun();
+        script.act(Step::fault(4));
+        script.act(Step::new_view(0b1111, 1));
+        script.act(Step::deliver(1, script.world.header.end));
+        script
+    };
+    let changed = || {
+        let mut script = begun();
+        script.change_view(0b1111, 1, &[1, 2, 3], &[1, 2]);
+        script
+    };
+    let start = changed().last();
+    // The answers of servers 1 to 3 to the first READ are 2, 3, 4; its WRITE is
+    // 5, with the answers 6, 7, 8; then comes END, which is 9.
+    let cases = [
+        (
+            "3-kind",
+            begun(),
+            Step {
+                kind: 8,
+                ..Step::default()
+            },
+        ),
+        ("3-client", begun(), Step::read(17)),
+        ("3-server", begun(), Step::fault(0)),
+        ("3-view", begun(), Step::false_answer(1, 33, 1, 0)),
+        ("3-message", begun(), Step::take(1024)),
+        (
+            "3-unused",
+            begun(),
+            Step {
+                value: 1,
+                ..Step::read(1)
+            },
+        ),
+        ("4-busy", busy(begun()), Step::write(2, 1)),
+        ("4-ending", ending(), Step::new_view(0b1, 0)),
+        ("5-deliver-unused", begun(), Step::deliver(1, 9)),
+        ("5-deliver-answer", begun(), Step::deliver(1, 2)),
+        ("5-take-request", begun(), Step::take(5)),
+        ("5-source", begun(), Step::false_answer(1, 1, 1, 1)),
+        ("6-deliver", ending(), Step::deliver(4, 1)),
+        ("6-fault", ending(), Step::fault(4)),
+        ("6-false-answer", ending(), Step::false_answer(3, 1, 1, 0)),
+        ("7-key-given-up", ending(), Step::deliver(1, 1)),
+        ("7-no-view", begun(), Step::deliver(9, 1)),
+        ("7-other-end", changed(), Step::deliver(1, 9)),
+        ("7-start-again", changed(), Step::deliver(1, start)),
+        ("7-not-a-member", changed(), Step::deliver(5, start)),
+        ("7-taken", busy(begun()), Step::take(2)),
+        ("7-closed", late(begun()), Step::take(9)),
+        ("8-size", begun(), Step::new_view(0b111, 1)),
+        ("8-largest-f", begun(), Step::new_view(u32::MAX, 255)),
+        ("9-no-key", ending(), Step::false_answer(4, 2, 1, 5)),
+    ];
+    cases
+        .into_iter()
+        .map(|(name, script, step)| {
+            // What follows a refused step is not read.
+            let journal = script.journal.then(step).then(Step::read(9));
+            Session::new(&format!("refused-{name}"), cut(journal.input()))
+        })
+        .collect()
+}
+
+/// Client 2 has a write open.
+fn busy(mut script: Script) -> Script {
+    script.act(Step::write(2, 6));
+    script
+}
+
+/// Server 4 answers the first READ long after it closed.
+fn late(mut script: Script) -> Script {
+    script.act(Step::deliver(4, 1));
+    script
+}

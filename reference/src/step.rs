@@ -1,0 +1,138 @@
+//! One step on a world: what it does, or why it is refused. A refused step
+//! leaves the world as it was, since each rule tests all before it changes
+//! anything.
+
+use crate::entry::Entry;
+use crate::layout::LAST_VIEW;
+use crate::record::{step_kind, Step};
+use crate::refusal::Reason;
+use crate::rules::Rules;
+use crate::server::{deliver, false_answer, fault};
+use crate::take::take;
+use crate::world::{message_kind, operation_kind, phase, Message, View, World};
+
+/// A phase, or the wait for END answers, that an answer belongs to.
+#[derive(Clone, Copy, Debug, PartialEq, Eq, Hash, PartialOrd, Ord)]
+pub enum Close {
+    /// The READ phase of a write.
+    ReadOfWrite,
+    /// The READ phase of a read.
+    ReadOfRead,
+    /// The WRITE phase of a write.
+    WriteOfWrite,
+    /// The WRITE phase of a read.
+    WriteOfRead,
+    /// The END of the newest view.
+    End,
+}
+
+/// What an accepted step did.
+#[derive(Clone, Copy, Debug, PartialEq, Eq, Hash, PartialOrd, Ord)]
+pub enum Deed {
+    /// A client sent its READ.
+    Began,
+    /// A correct server answered a request of this kind.
+    Answered(u8),
+    /// A correct server took the view of a START.
+    Started,
+    /// A faulty server got the key of a START.
+    KeyAdded,
+    /// The answer was taken and what waits for it stays open.
+    LeftOpen(Close),
+    /// The answer to END has another view, and counts for nothing.
+    CountsForNothing,
+    /// The answer closed what waited for it.
+    Closed(Close),
+    /// A server turned faulty.
+    Faulted,
+    /// A faulty server answered.
+    Lied,
+    /// The administrator sent END.
+    Ending,
+}
+
+/// An accepted step: what it did, and the client whose operation it completed,
+/// or 0.
+#[derive(Clone, Copy, Debug, PartialEq, Eq)]
+pub struct Done {
+    pub deed: Deed,
+    pub completed: u8,
+}
+
+impl Done {
+    pub fn just(deed: Deed) -> Done {
+        Done { deed, completed: 0 }
+    }
+}
+
+pub type Outcome = Result<Done, Reason>;
+
+/// Check 3, then the rule of the step's kind.
+pub fn step<R: Rules>(world: &mut World, step: &Step) -> Outcome {
+    step.check()?;
+    match step.kind {
+        step_kind::WRITE => begin(
+            world,
+            step.who,
+            operation_kind::WRITE,
+            Entry::new(0, 0, step.value),
+        ),
+        step_kind::READ => begin(world, step.who, operation_kind::READ, Entry::EMPTY),
+        step_kind::DELIVER => deliver::<R>(world, step.who, step.message),
+        step_kind::TAKE => take::<R>(world, step.message),
+        step_kind::FAULT => fault(world, step.who),
+        step_kind::FALSE_ANSWER => {
+            false_answer(world, step.who, step.view, step.message, step.source)
+        }
+        step_kind::NEW_VIEW => new_view(world, step.value, step.f),
+        _ => Err(Reason::UnknownKind),
+    }
+}
+
+/// Write and read begin alike: a READ goes out, and the client remembers what
+/// it is for.
+fn begin(world: &mut World, client: u8, kind: u8, entry: Entry) -> Outcome {
+    if world.client(client).phase != phase::IDLE {
+        return Err(Reason::ClientBusy);
+    }
+    world.number_left()?;
+    let request = world.send(Message {
+        kind: message_kind::READ,
+        sender: client,
+        ..Message::default()
+    });
+    let record = world.client_mut(client);
+    record.phase = phase::READING;
+    record.kind = kind;
+    record.request = request;
+    record.entry = entry;
+    Ok(Done::just(Deed::Began))
+}
+
+/// The administrator records the next view and ends the newest.
+fn new_view(world: &mut World, members: u32, f: u8) -> Outcome {
+    if world.is_ending() {
+        return Err(Reason::EndingAlready);
+    }
+    let pending = View {
+        members,
+        f,
+        ..View::default()
+    };
+    if !pending.keeps_size_rule() {
+        return Err(Reason::SizeRule);
+    }
+    let newest = world.header.newest;
+    if newest >= LAST_VIEW {
+        return Err(Reason::LastView);
+    }
+    world.number_left()?;
+    world.views[usize::from(newest)] = pending;
+    world.header.ending = 1;
+    world.header.end = world.send(Message {
+        kind: message_kind::END,
+        view: newest,
+        ..Message::default()
+    });
+    Ok(Done::just(Deed::Ending))
+}

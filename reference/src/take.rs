@@ -1,0 +1,182 @@
+//! Taking an answer: it goes to the head of its request's chain, and closes
+//! what waits for it if the answers of its view now come from a quorum.
+
+use crate::entry::Entry;
+use crate::refusal::Reason;
+use crate::rules::Rules;
+use crate::step::{Close, Deed, Done, Outcome};
+use crate::world::{bit, message_kind, operation_kind, phase, Message, World};
+
+/// What the answers of one view to one request amount to, the one just taken
+/// included.
+struct Tally {
+    /// The servers they come from, as bits.
+    servers: u32,
+    /// How many they are.
+    answers: u32,
+    /// Their largest entry; of equal stamps the one taken first.
+    largest: Entry,
+}
+
+impl Tally {
+    fn reaches<R: Rules>(&self, quorum: u32) -> bool {
+        if R::COUNTS_ANSWERS {
+            self.answers >= quorum
+        } else {
+            self.servers.count_ones() >= quorum
+        }
+    }
+}
+
+pub fn take<R: Rules>(world: &mut World, number: u16) -> Outcome {
+    let answer = *world.message(number).ok_or(Reason::NoSuchMessage)?;
+    if answer.kind != message_kind::ANSWER {
+        return Err(Reason::NotAnAnswer);
+    }
+    if answer.taken != 0 {
+        return Err(Reason::TakenBefore);
+    }
+    let close = waiting(world, answer.request).ok_or(Reason::NobodyWaits)?;
+    if close == Close::End && answer.view != world.header.newest {
+        link(world, number);
+        return Ok(Done::just(Deed::CountsForNothing));
+    }
+    let tally = tally(world, &answer, R::ADDS_UP_VIEWS && close != Close::End);
+    if !tally.reaches::<R>(world.view(answer.view).quorum()) {
+        link(world, number);
+        return Ok(Done::just(Deed::LeftOpen(close)));
+    }
+    match close {
+        Close::ReadOfRead if R::SKIPS_WRITE_BACK => {
+            Ok(end_with_read_phase(world, number, tally.largest))
+        }
+        Close::ReadOfWrite | Close::ReadOfRead => close_read(world, number, close, tally.largest),
+        Close::WriteOfWrite | Close::WriteOfRead => Ok(close_write(world, number, close)),
+        Close::End => close_end(world, number, tally.largest),
+    }
+}
+
+/// Who waits for answers to this request: its client in an open phase that
+/// names it, or the administrator whose END it is.
+fn waiting(world: &World, number: u16) -> Option<Close> {
+    let request = world.message(number)?;
+    if request.kind == message_kind::END {
+        return (world.is_ending() && world.header.end == number).then_some(Close::End);
+    }
+    let client = world.client(request.sender);
+    if client.phase == phase::IDLE || client.request != number {
+        return None;
+    }
+    Some(match (client.phase, client.kind) {
+        (phase::READING, operation_kind::WRITE) => Close::ReadOfWrite,
+        (phase::READING, _) => Close::ReadOfRead,
+        (_, operation_kind::WRITE) => Close::WriteOfWrite,
+        (_, _) => Close::WriteOfRead,
+    })
+}
+
+/// Walks the chain from its newest link to its oldest. A later link is an
+/// earlier answer, so it also wins with an equal stamp.
+fn tally(world: &World, answer: &Message, all_views: bool) -> Tally {
+    let mut tally = Tally {
+        servers: bit(answer.sender),
+        answers: 1,
+        largest: answer.entry,
+    };
+    let mut next = world.messages[usize::from(answer.request)].next;
+    while next != 0 {
+        let taken = &world.messages[usize::from(next)];
+        if all_views || taken.view == answer.view {
+            tally.servers |= bit(taken.sender);
+            tally.answers += 1;
+            if taken.entry.stamp() >= tally.largest.stamp() {
+                tally.largest = taken.entry;
+            }
+        }
+        next = taken.next;
+    }
+    tally
+}
+
+/// The answer is taken: it becomes the head of its request's chain.
+fn link(world: &mut World, number: u16) {
+    let request = usize::from(world.messages[usize::from(number)].request);
+    let head = world.messages[request].next;
+    let answer = &mut world.messages[usize::from(number)];
+    answer.taken = 1;
+    answer.next = head;
+    world.messages[request].next = number;
+}
+
+/// The client that sent the request of this answer.
+fn asker(world: &World, number: u16) -> u8 {
+    let request = world.messages[usize::from(number)].request;
+    world.messages[usize::from(request)].sender
+}
+
+/// A READ phase closes: the WRITE goes out, with a new entry for a write and
+/// the one chosen for a read.
+fn close_read(world: &mut World, number: u16, close: Close, chosen: Entry) -> Outcome {
+    let client = asker(world, number);
+    let entry = if close == Close::ReadOfWrite {
+        let count = chosen.count.checked_add(1).ok_or(Reason::CountTooLarge)?;
+        Entry::new(count, client, world.client(client).entry.value)
+    } else {
+        chosen
+    };
+    world
+        .number_left()
+        .map_err(|_| Reason::NoNumberToClose(close))?;
+    link(world, number);
+    let request = world.send(Message {
+        kind: message_kind::WRITE,
+        sender: client,
+        entry,
+        ..Message::default()
+    });
+    let record = world.client_mut(client);
+    record.phase = phase::WRITING;
+    record.request = request;
+    record.entry = entry;
+    Ok(Done::just(Deed::Closed(close)))
+}
+
+/// A WRITE phase closes: the operation is complete, and its entry stays in the
+/// client's record.
+fn close_write(world: &mut World, number: u16, close: Close) -> Done {
+    let client = asker(world, number);
+    link(world, number);
+    let record = world.client_mut(client);
+    record.phase = phase::IDLE;
+    record.request = 0;
+    Done {
+        deed: Deed::Closed(close),
+        completed: client,
+    }
+}
+
+/// A wrong idea: the read is complete without its WRITE phase.
+fn end_with_read_phase(world: &mut World, number: u16, chosen: Entry) -> Done {
+    let client = asker(world, number);
+    world.client_mut(client).entry = chosen;
+    close_write(world, number, Close::ReadOfRead)
+}
+
+/// The END closes: the pending view becomes the newest, and START goes out with
+/// the entry chosen.
+fn close_end(world: &mut World, number: u16, chosen: Entry) -> Outcome {
+    world
+        .number_left()
+        .map_err(|_| Reason::NoNumberToClose(Close::End))?;
+    link(world, number);
+    world.header.newest += 1;
+    world.header.ending = 0;
+    world.header.end = 0;
+    world.send(Message {
+        kind: message_kind::START,
+        view: world.header.newest,
+        entry: chosen,
+        ..Message::default()
+    });
+    Ok(Done::just(Deed::Closed(Close::End)))
+}

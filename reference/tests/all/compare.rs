@@ -1,0 +1,164 @@
+//! The comparison finds what differs: a library with one thing changed fails.
+
+use reference::codec::{decode, encode};
+use reference::compare::cases::run_all;
+use reference::compare::check::Comparison;
+use reference::compare::library::{Library, Reference};
+use reference::compare::report::{is_good, report};
+use reference::layout::IMAGE_SIZE;
+
+type ChangeImage = dyn Fn(&mut [u8]);
+
+/// The reference, with its answers and images passed through changes.
+struct Changed {
+    answer: Box<dyn Fn(u64) -> u64>,
+    image: Box<ChangeImage>,
+    only_if_accepted: bool,
+}
+
+/// Nothing changed yet.
+fn same() -> Changed {
+    Changed {
+        answer: Box::new(|answer| answer),
+        image: Box::new(|_| {}),
+        only_if_accepted: true,
+    }
+}
+
+impl Changed {
+    fn change(&self, answer: u64, image: &mut [u8]) -> u64 {
+        if !self.only_if_accepted || answer.is_multiple_of(256) {
+            (self.image)(image);
+        }
+        (self.answer)(answer)
+    }
+}
+
+impl Library for Changed {
+    fn fresh(&self, image: &mut [u8], members: u32, f: u8) -> u64 {
+        Reference.fresh(image, members, f)
+    }
+
+    fn quorum(&self, n: u32, f: u32) -> u64 {
+        Reference.quorum(n, f)
+    }
+
+    fn step(&self, image: &mut [u8], step: &[u8]) -> u64 {
+        let answer = Reference.step(image, step);
+        self.change(answer, image)
+    }
+
+    fn premise(&self, image: &[u8]) -> u64 {
+        Reference.premise(image)
+    }
+
+    fn replay(&self, image: &mut [u8], journal: &[u8]) -> u64 {
+        let answer = Reference.replay(image, journal);
+        self.change(answer, image)
+    }
+}
+
+fn passes(library: &dyn Library) -> bool {
+    let mut comparison = Comparison::new(library);
+    run_all(&mut comparison, 2000, 24, 1);
+    comparison.failed == 0
+}
+
+#[test]
+fn the_same_library_passes() {
+    assert!(passes(&Reference));
+    assert!(passes(&same()));
+}
+
+#[test]
+fn another_refusal_fails() {
+    for (from, to) in [
+        (4, 5),
+        (5, 7),
+        (6, 7),
+        (7, 6),
+        (8, 3),
+        (9, 5),
+        (10, 7),
+        (11, 10),
+    ] {
+        let swap = move |answer| {
+            if answer % 256 == from {
+                answer - from + to
+            } else {
+                answer
+            }
+        };
+        let library = Changed {
+            answer: Box::new(swap),
+            ..same()
+        };
+        assert!(!passes(&library), "{from} instead of {to}");
+    }
+}
+
+#[test]
+fn another_result_fails() {
+    let library = Changed {
+        answer: Box::new(|answer| answer % 256),
+        ..same()
+    };
+    assert!(!passes(&library));
+}
+
+#[test]
+fn another_byte_after_an_accepted_step_fails() {
+    let library = Changed {
+        image: Box::new(|image| image[IMAGE_SIZE - 1] ^= 1),
+        ..same()
+    };
+    assert!(!passes(&library));
+}
+
+#[test]
+fn a_byte_written_beside_a_refusal_fails() {
+    let library = Changed {
+        image: Box::new(|image| {
+            if let Some(byte) = image.last_mut() {
+                *byte ^= 1;
+            }
+        }),
+        only_if_accepted: false,
+        ..same()
+    };
+    assert!(!passes(&library));
+}
+
+#[test]
+fn a_rule_changed_in_one_place_fails() {
+    // A server that performs END keeps its key.
+    let library = Changed {
+        image: Box::new(|image| {
+            let image: &mut [u8; IMAGE_SIZE] = image.try_into().unwrap();
+            let mut world = decode(image);
+            for server in &mut world.servers {
+                if server.faulty == 0 && server.view != 0 && server.keys == 0 {
+                    server.keys = 1 << (server.view - 1);
+                }
+            }
+            encode(&world, image);
+        }),
+        ..same()
+    };
+    assert!(!passes(&library));
+}
+
+#[test]
+fn the_report_ends_with_the_score() {
+    let mut comparison = Comparison::new(&Reference);
+    run_all(&mut comparison, 500, 8, 1);
+    let text = report(&comparison);
+    let last = text.lines().last().unwrap();
+    let rare = comparison
+        .counts
+        .rare(reference::compare::report::LEAST)
+        .len();
+    assert_eq!(last, format!("{} passed, {rare} failed", comparison.passed));
+    // Too few cases meet too few refusals, and that counts as failed.
+    assert!(rare > 0 && !is_good(&comparison));
+}

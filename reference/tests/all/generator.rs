@@ -1,0 +1,269 @@
+//! The generator: the same seed gives the same journal, and together the cases
+//! reach every refusal by every path and every kind of close.
+
+use std::collections::{BTreeMap, BTreeSet};
+
+use reference::compare::cases::{run_all, JOURNALS, STEPS};
+use reference::compare::check::Comparison;
+use reference::compare::counts::Operation;
+use reference::compare::library::Reference;
+use reference::compare::report::{is_good, LEAST};
+use reference::generate::journals::journal;
+use reference::generate::profile::{FULL, PROFILES, RUSH, STORM, WRECK};
+use reference::history::operations::run;
+use reference::layout::{IMAGE_SIZE, STEP_SIZE};
+use reference::operations;
+use reference::premise::premise;
+use reference::readable::{readable, Clause};
+use reference::record::{Field, FIELDS};
+use reference::refusal::Reason;
+use reference::rules::Sound;
+use reference::step::{Close, Deed};
+use reference::world::message_kind;
+
+#[test]
+fn a_seed_gives_one_journal() {
+    for profile in PROFILES {
+        assert_eq!(journal::<Sound>(7, profile), journal::<Sound>(7, profile));
+        assert_ne!(journal::<Sound>(7, profile), journal::<Sound>(8, profile));
+    }
+}
+
+#[test]
+fn journals_end_in_readable_worlds() {
+    for profile in PROFILES {
+        for seed in 0..10 {
+            let run = run::<Sound>(&journal::<Sound>(seed, profile));
+            assert!(readable(&run.world), "{} {seed}", profile.name);
+        }
+    }
+}
+
+#[test]
+fn a_replay_does_what_single_steps_do() {
+    for profile in PROFILES {
+        for seed in 0..3 {
+            let mut drawn = journal::<Sound>(seed, profile);
+            drawn.steps.retain(|step| step.len() == STEP_SIZE);
+            let mut one = vec![0; IMAGE_SIZE];
+            operations::fresh(&mut one, drawn.members, drawn.f).unwrap();
+            let mut other = one.clone();
+            let replayed = operations::replay(&mut one, &drawn.bytes());
+            let accepted = drawn
+                .steps
+                .iter()
+                .take_while(|step| operations::step(&mut other, step).is_ok())
+                .count();
+            assert_eq!(replayed.done, accepted, "{} {seed}", profile.name);
+            assert!(one == other, "{} {seed}", profile.name);
+        }
+    }
+}
+
+/// Every WRITE of a run; equal stamps of them must go with equal entries.
+#[test]
+fn within_the_premise_a_stamp_is_given_one_time() {
+    for seed in 0..300 {
+        let world = run::<Sound>(&journal::<Sound>(seed, &STORM)).world;
+        let mut entries: Vec<_> = world
+            .messages
+            .iter()
+            .filter(|message| message.kind == message_kind::WRITE)
+            .map(|message| message.entry)
+            .collect();
+        entries.sort_by_key(|entry| entry.stamp());
+        for pair in entries.windows(2) {
+            assert!(pair[0].stamp() != pair[1].stamp() || pair[0] == pair[1]);
+        }
+    }
+}
+
+#[test]
+fn profiles_do_what_they_are_for() {
+    let full = (0..20)
+        .filter(|seed| {
+            run::<Sound>(&journal::<Sound>(*seed, &FULL))
+                .world
+                .header
+                .used
+                == 1023
+        })
+        .count();
+    assert!(full >= 15, "{full} of 20 use every message number");
+    let last = (0..40)
+        .filter(|seed| {
+            run::<Sound>(&journal::<Sound>(*seed, &RUSH))
+                .world
+                .header
+                .newest
+                == 32
+        })
+        .count();
+    assert!(last >= 1, "{last} of 40 reach the last view");
+    for seed in 0..100 {
+        let within = run::<Sound>(&journal::<Sound>(seed, &STORM)).world;
+        assert!(premise::<Sound>(&within));
+    }
+    let beyond = (0..100)
+        .filter(|seed| !premise::<Sound>(&run::<Sound>(&journal::<Sound>(*seed, &WRECK)).world))
+        .count();
+    assert!(beyond >= 50, "{beyond} of 100 go beyond the premise");
+}
+
+/// The fields that a step of this operation uses, with whether they have a
+/// bounded range.
+fn used_fields(operation: Operation) -> &'static [(Field, bool)] {
+    use Field::{Message, Source, Value, View, Who, F};
+    match operation {
+        Operation::Write => &[(Who, true), (Value, false)],
+        Operation::Read | Operation::Fault => &[(Who, true)],
+        Operation::Deliver => &[(Who, true), (Message, true)],
+        Operation::Take => &[(Message, true)],
+        Operation::FalseAnswer => &[(Who, true), (View, true), (Message, true), (Source, true)],
+        Operation::NewView => &[(F, false), (Value, false)],
+        _ => &[],
+    }
+}
+
+/// The refusals that a step of this operation can meet by its own rule.
+fn own_refusals(operation: Operation) -> Vec<Reason> {
+    use Reason::*;
+    match operation {
+        Operation::Write | Operation::Read => vec![ClientBusy, NoNumber],
+        Operation::Deliver => vec![
+            NoSuchMessage,
+            AnswerDelivered,
+            ServerFaulty,
+            NoViewYet,
+            KeyGivenUp,
+            EndOfOtherView,
+            NotAMember,
+            ViewNotBelow,
+            KeyHeldAlready,
+            NoNumber,
+        ],
+        Operation::Take => vec![
+            NoSuchMessage,
+            NotAnAnswer,
+            TakenBefore,
+            NobodyWaits,
+            CountTooLarge,
+            NoNumberToClose(Close::ReadOfWrite),
+            NoNumberToClose(Close::ReadOfRead),
+            NoNumberToClose(Close::End),
+        ],
+        Operation::Fault => vec![FaultyAlready],
+        Operation::FalseAnswer => vec![
+            NoSuchMessage,
+            NotARequest,
+            NoSuchSource,
+            SourceNotWrite,
+            ServerCorrect,
+            LacksKey,
+            NoNumber,
+        ],
+        Operation::NewView => vec![EndingAlready, SizeRule, LastView, NoNumber],
+        _ => vec![],
+    }
+}
+
+/// Every path to a refusal that exists.
+fn every_path() -> BTreeSet<(Operation, Reason)> {
+    let mut paths = BTreeSet::from([
+        (Operation::Fresh, Reason::ImageLength),
+        (Operation::Fresh, Reason::SizeRule),
+        (Operation::Quorum, Reason::SizeRule),
+        (Operation::OtherKind, Reason::ImageLength),
+        (Operation::OtherKind, Reason::StepLength),
+        (Operation::OtherKind, Reason::Unreadable),
+        (Operation::OtherKind, Reason::UnknownKind),
+        (Operation::Premise, Reason::ImageLength),
+        (Operation::Premise, Reason::Unreadable),
+        (Operation::Replay, Reason::ImageLength),
+        (Operation::Replay, Reason::JournalLength),
+        (Operation::Replay, Reason::Unreadable),
+        (Operation::Replay, Reason::UnknownKind),
+    ]);
+    let steps = [
+        Operation::Write,
+        Operation::Read,
+        Operation::Deliver,
+        Operation::Take,
+        Operation::Fault,
+        Operation::FalseAnswer,
+        Operation::NewView,
+    ];
+    for operation in steps {
+        for reason in [Reason::ImageLength, Reason::StepLength, Reason::Unreadable] {
+            paths.insert((operation, reason));
+        }
+        let used = used_fields(operation);
+        for field in FIELDS {
+            match used.iter().find(|(name, _)| *name == field) {
+                None => paths.insert((operation, Reason::Unused(field))),
+                Some((_, true)) => paths.insert((operation, Reason::OutOfRange(field))),
+                Some((_, false)) => false,
+            };
+        }
+        for reason in own_refusals(operation) {
+            paths.insert((operation, reason));
+        }
+    }
+    paths
+}
+
+/// Everything an accepted step can do.
+fn every_deed() -> BTreeSet<Deed> {
+    let waits = [
+        Close::ReadOfWrite,
+        Close::ReadOfRead,
+        Close::WriteOfWrite,
+        Close::WriteOfRead,
+        Close::End,
+    ];
+    let mut deeds = BTreeSet::from([
+        Deed::Began,
+        Deed::Answered(1),
+        Deed::Answered(2),
+        Deed::Answered(3),
+        Deed::Started,
+        Deed::KeyAdded,
+        Deed::CountsForNothing,
+        Deed::Faulted,
+        Deed::Lied,
+        Deed::Ending,
+    ]);
+    deeds.extend(waits.map(Deed::Closed));
+    deeds.extend(waits.map(Deed::LeftOpen));
+    deeds
+}
+
+#[test]
+fn the_cases_reach_every_refusal_by_every_path_and_every_close() {
+    let mut comparison = Comparison::new(&Reference);
+    run_all(&mut comparison, STEPS, JOURNALS, 1);
+    let counts = &comparison.counts;
+    assert!(is_good(&comparison), "{:?}", comparison.told);
+    assert!(counts.rare(LEAST).is_empty());
+    let met: BTreeMap<_, _> = counts
+        .refused
+        .iter()
+        .filter(|((operation, _), _)| *operation != Operation::Replay)
+        .collect();
+    for path in every_path() {
+        let replayed = path.0 == Operation::Replay && counts.refused.contains_key(&path);
+        assert!(replayed || met.contains_key(&path), "never met: {path:?}");
+    }
+    for path in met.keys() {
+        assert!(every_path().contains(path), "not thought of: {path:?}");
+    }
+    let deeds: BTreeSet<Deed> = counts.deeds.keys().copied().collect();
+    assert_eq!(deeds, every_deed());
+    for clause in Clause::ALL {
+        assert!(
+            counts.clauses.contains_key(clause),
+            "{clause:?} never refused alone"
+        );
+    }
+    assert!(comparison.steps >= STEPS as u64 && comparison.journals >= JOURNALS as u64);
+}
