@@ -6,18 +6,21 @@ use mathlib.Core.List.{List}
 use native.Mathlib.Omega.{arith}
 use lib.ListN.{length}
 use lib.Dec.{eqb}
+use borrow.Author.Tests.{eq-eqb}
 use Rattle.protocol.specs.Tools.{Result, refused, done, guard, passed}
 use Rattle.protocol.specs.declared.View.{View}
 use Rattle.protocol.specs.Sizes.{sized}
 use Rattle.protocol.specs.Worlds.{World, freshWorld, fresh, premise}
 use Rattle.protocol.specs.Consistent.{Consistent}
 use Rattle.codec.specs.Layout.{imageSize}
+use Rattle.codec.specs.Images.{decode}
+use Rattle.image.specs.Readable.{read}
 use Rattle.image.specs.Fresh.{outcome, freshOn}
 use Rattle.image.specs.Premise.{premiseOn}
 use Rattle.agreement.specs.Theorem.{linearizable}
 use Rattle.preservation.specs.Begun.{fresh-kept}
 use Rattle.consistency.specs.Runs.{Run, runFrom, history}
-use Rattle.consistency.specs.Worlds.{Spells, spelled, Same, runFrom-same, history-same}
+use Rattle.consistency.specs.Worlds.{Spells, spelled, legible, Same, runFrom-same, history-same}
 
 -- what a fresh image that is not refused spells
 record Fresh (members f : ℕ) (i : List ℕ) : Type 0 where
@@ -52,6 +55,16 @@ reported {i} {w} h e =
   where
     is-done : {x y : Bool} → done x ≡ done y → x ≡ y
     is-done e = cc
+
+-- the premise report of a run's image is no refusal: it says whether the premise holds in its world
+pub run-reported : (buffer : List ℕ) (members f : ℕ) → freshOn buffer members f .refusal ≡ 0 → (steps : List (List ℕ))
+    → premiseOn (runFrom (freshOn buffer members f .image) steps .image) ≡ done (premise (decode (runFrom (freshOn buffer members f .image) steps .image)))
+unfolding premiseOn guard
+run-reported buffer members f e steps =
+    let b = began buffer members f e in
+    let s = runFrom-same _ (b .world) steps (b .spells) in
+    let h = legible (s .image) in
+    rw (eq-eqb _ _ (read _ h .size), h) refl
 
 -- For every buffer, member bits and f that are not refused, and every list of byte strings of any length, each a step on the
 -- image that the last one left: if the premise report of the last image says that the premise holds, the operations of the run

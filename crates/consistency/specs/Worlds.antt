@@ -30,6 +30,10 @@ spelled {i} {w} h = ap decode (h .is) ∙ world-decode w (h .formed)
 pub legible : {i : List ℕ} {w : World} → Spells i w → readable i ≡ true
 legible {i} {w} h = ap readable (h .is) ∙ world-readable w (h .formed)
 
+-- "every readable image is exactly one world": that which it decodes to, and no other
+pub exactly-one : (i : List ℕ) → readable i ≡ true → Spells i (decode i) × ((w : World) → Spells i w → w ≡ decode i)
+exactly-one i e = let r = read i e in (record { is = sym (r .image); formed = r .world }, λ w h. sym (spelled h))
+
 -- a step on it is the world's
 pub step-spelled : {i : List ℕ} {w : World} → Spells i w → (b : List ℕ) → stepOn i b ≡ stepBytes w b
 unfolding stepOn stepBytes guard

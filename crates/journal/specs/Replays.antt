@@ -7,8 +7,8 @@ use mathlib.Core.Path.{_≡_, refl, sym, ap, ap₂, subst, _∙_}
 use mathlib.Core.List.{List, [], _∷_, _++_}
 use lib.ListN.{length, take, drop, length-take, length-drop}
 use lib.Seq.{drop-drop, take-all}
-use lib.Dec.{eqb}
-use borrow.Author.Tests.{eq-eqb, ne-eqb}
+use lib.Dec.{eqb, leb}
+use borrow.Author.Tests.{eq-eqb, ne-eqb, le-leb, lt-leb}
 use Rattle.protocol.specs.Tools.{if, Result, refused, done, guard}
 use Rattle.protocol.specs.Worlds.{World}
 use Rattle.protocol.specs.Readable.{wellFormed}
@@ -57,6 +57,10 @@ replayOn i j =
     if (eqb (length i) imageSize && eqb (length j % stepWidth) 0)
     (if (readable i) (played (replay (decode i) (stepsOf j))) (unplayed i 2))
     (unplayed i 1)
+
+-- "The rest of the journal after the last accepted step can be replayed": what is left of j after n steps; 1, it has fewer
+unfoldable pub resumeOn : List ℕ → List ℕ → ℕ → Played
+resumeOn i j n = if (leb n (length j / stepWidth)) (replayOn i (drop (n * stepWidth) j)) (unplayed i 1)
 
 -- ---- replays one after another
 
@@ -236,3 +240,20 @@ module _ (l j : List ℕ) where
     pub whole-replay : readable l ≡ true → replayOn l j ≡ played (replay (decode l) (stepsOf j))
     unfolding replayOn
     whole-replay e = rw (eq-eqb (length l) imageSize h, eq-eqb (length j % stepWidth) 0 k, e) refl
+
+-- ---- the rest of a journal
+
+module _ (l j : List ℕ) (n : ℕ) where
+  pub rest-none : length j / stepWidth < n → Plays (record { steps = 0; refusal = 1 }) l (resumeOn l j n)
+  unfolding resumeOn
+  rest-none e = rw (lt-leb n (length j / stepWidth) e) (record { steps = refl; refusal = refl; image = refl })
+
+  pub rest-some : n ≤ length j / stepWidth → resumeOn l j n ≡ replayOn l (drop (n * stepWidth) j)
+  unfolding resumeOn
+  rest-some e = rw (le-leb n (length j / stepWidth) e) refl
+
+  -- what is lent of it
+  pub rest-lent : n ≤ length j / stepWidth → replayOn l (take (length j - n * stepWidth) (drop (n * stepWidth) j)) ≡ resumeOn l j n
+  rest-lent e =
+    let d = length-drop (n * stepWidth) j in
+    ap (replayOn l) (take-all (length j - n * stepWidth) (drop (n * stepWidth) j) (omega arith)) ∙ sym (rest-some e)

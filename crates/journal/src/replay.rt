@@ -6,7 +6,7 @@ ghost use Rattle.protocol.specs.Steps.{step as stepOf};
 ghost use Rattle.protocol.specs.Runs.{stepWidth, stepOf as stepIn, replay as replayOf};
 ghost use Rattle.codec.specs.Images.{decode};
 ghost use Rattle.world.specs.Images.{Legible, Does};
-ghost use Rattle.journal.specs.Replays.{Plays, played, stepsOf, replayOn};
+ghost use Rattle.journal.specs.Replays.{Plays, played, stepsOf, replayOn, resumeOn};
 use super::Replayed;
 use codec::layout::IMAGE;
 use codec::layout::STEP;
@@ -68,4 +68,18 @@ pub fn replay(image: &mut [u8], journal: &[u8]) -> Replayed
         };
     }
     play(image, journal)
+}
+
+// "The rest of the journal after the last accepted step can be replayed": what is left of it after its first steps. 1, it has
+// fewer.
+pub fn resume(image: &mut [u8], journal: &[u8], steps: usize) -> Replayed
+    ensures { λ r. ⌜ Plays r (now (image .exit)) (resumeOn (now (image .entry)) (now (journal .entry)) steps) ⌝ }
+{
+    if journal.len() / STEP < steps {
+        return Replayed {
+            steps: 0,
+            refusal: 1,
+        };
+    }
+    replay(image, &journal[steps * STEP..])
 }
