@@ -50,6 +50,11 @@ read-served : serveRule (server 1 1 empty) (request READ 1 0 empty) false ≡ an
 unfolding server request answers serveRule guard serverInRange messageInRange senderTag viewTag requestTag nextTag entryTag entryFits same bitOf serve holds
 read-served = refl
 
+-- a client that waits for nothing takes no answer
+none-taken : takeRule (answer 1 1 1 empty) 0 ≡ refused 7
+unfolding answer takeRule guard messageInRange senderTag viewTag requestTag nextTag entryTag entryFits same numberFits
+none-taken = refl
+
 read-taken : takeRule (answer 1 1 1 empty) 1 ≡ done (answer 1 1 1 empty)
 unfolding answer takeRule guard messageInRange senderTag viewTag requestTag nextTag entryTag entryFits same numberFits
 read-taken = refl

@@ -1,10 +1,10 @@
 -- "One machine's rule: 3, record out of range; then as its step." Assumes nothing.
 use Prim.Native.Nat.{ℕ}
 use mathlib.Core.Bool.{Bool, true, not, _&&_}
-use lib.Dec.{eqb}
+use lib.Dec.{eqb, leb}
 use Rattle.machines.specs.Types.{Entry, View, Server, Phase, Idle, Reading, Writing, Client, Administrator, Message}
 use Rattle.protocol.specs.Tools.{within, Result, done, guard}
-use Rattle.protocol.specs.Sizes.{clients, views}
+use Rattle.protocol.specs.Sizes.{clients, views, messages}
 use Rattle.protocol.specs.Entries.{entryFits}
 use Rattle.protocol.specs.Servers.{ANSWER, Reply, serve, mayAnswer}
 use Rattle.protocol.specs.Clients.{WRITES, READS, begin, Close, close, isEnding, call, advance}
@@ -25,10 +25,10 @@ writeRule c value n = guard (clientInRange c && numberFits n) 3 (begin c WRITES 
 unfoldable pub readRule : Client → ℕ → Result Client
 readRule c n = guard (clientInRange c && numberFits n) 3 (begin c READS 0 n)
 
--- the answer m to the request r is taken: "5, not an answer; 7, taken before, or its request is neither that of an open phase nor the END number"
+-- the answer m is taken, r being the request that waits, or 0: "5, not an answer; 7, taken before, or its request is neither that of an open phase nor the END number"
 unfoldable pub takeRule : Message → ℕ → Result Message
 takeRule m r =
-    guard (messageInRange m && numberFits r) 3
+    guard (messageInRange m && leb r messages) 3
     (guard (eqb (m .kind) ANSWER) 5 (guard (not (m .taken) && eqb (m .request .0) r) 7 (done m)))
 
 -- a number is needed where the close sends

@@ -89,7 +89,8 @@ pub fn read_rule(c: Client, n: MessageNumber) -> Begun
     clients::begin(c, 2, 0, n)
 }
 
-// Whether a message is an answer that the request r may take, by number: 3, 5, not an answer; 7, taken before, or of another request.
+// Whether a message is an answer that may be taken, by number, r being the request that waits, or 0: 3; 5, not an answer; 7, taken
+// before, or of another request.
 pub fn take_rule(m: Message, r: MessageNumber) -> u8
     ensures { λ k. ⌜ k ≡ numberOf (takeRule m (r .0)) ⌝ }
 {
@@ -97,8 +98,7 @@ pub fn take_rule(m: Message, r: MessageNumber) -> u8
     if !message_ok {
         return 3;
     }
-    let request_ok = ranges::number_fits(r);
-    if !request_ok {
+    if 1023 < r.0 {
         return 3;
     }
     let request = m.request;

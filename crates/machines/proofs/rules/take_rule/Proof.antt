@@ -1,6 +1,6 @@
 use mathlib.Core.Path.{sym, _∙_}
 use borrow.Author.Needs.{needs}
-use borrow.Author.Tests.{eq-eqb, ne-eqb, not-true, not-false}
+use borrow.Author.Tests.{eq-eqb, ne-eqb, le-leb, lt-leb, not-true, not-false}
 use Rattle.protocol.specs.Tools.{guard}
 use Rattle.machines.specs.Rules.{takeRule}
 use Rattle.machines.proofs.rules.take_rule.Statement.{statement}
@@ -13,14 +13,11 @@ returns : tie.Need-returns
 unfolding takeRule guard
 returns c = simp (sym (c .before .message-in-range .ensures) ∙ not-true (c .before .message-in-range .result) (c .if1 .taken))
 
-number-fits-requires : tie.Need-number-fits-requires
-number-fits-requires c κs = search needs
-
 returns-2 : tie.Need-returns-2
 unfolding takeRule guard
 returns-2 c =
     simp (
-      sym (c .before .number-fits .ensures) ∙ not-true (c .before .number-fits .result) (c .if2 .taken),
+      lt-leb _ _ (c .if2 .taken),
       sym (c .before .before .before .message-in-range .ensures) ∙ not-false (c .before .before .before .message-in-range .result) (c .before .before .if1 .left),
     )
 
@@ -29,7 +26,7 @@ unfolding takeRule guard
 returns-3 c =
     simp (
       ne-eqb _ _ (c .if3 .taken),
-      sym (c .before .before .before .before .number-fits .ensures) ∙ not-false (c .before .before .before .before .number-fits .result) (c .before .before .before .if2 .left),
+      le-leb _ _ (c .before .before .before .if2 .left),
       sym (c .before .before .before .before .before .before .message-in-range .ensures) ∙ not-false (c .before .before .before .before .before .before .message-in-range .result) (c .before .before .before .before .before .if1 .left),
     )
 
@@ -39,7 +36,7 @@ returns-4 c =
     simp (
       c .if4 .taken,
       eq-eqb _ _ (c .before .if3 .left),
-      sym (c .before .before .before .before .before .number-fits .ensures) ∙ not-false (c .before .before .before .before .before .number-fits .result) (c .before .before .before .before .if2 .left),
+      le-leb _ _ (c .before .before .before .before .if2 .left),
       sym (c .before .before .before .before .before .before .before .message-in-range .ensures) ∙ not-false (c .before .before .before .before .before .before .before .message-in-range .result) (c .before .before .before .before .before .before .if1 .left),
     )
 
@@ -50,7 +47,7 @@ returns-5 c =
       ne-eqb _ _ (c .if5 .taken),
       c .before .before .before .if4 .left,
       eq-eqb _ _ (c .before .before .before .before .if3 .left),
-      sym (c .before .before .before .before .before .before .before .before .number-fits .ensures) ∙ not-false (c .before .before .before .before .before .before .before .before .number-fits .result) (c .before .before .before .before .before .before .before .if2 .left),
+      le-leb _ _ (c .before .before .before .before .before .before .before .if2 .left),
       sym (c .before .before .before .before .before .before .before .before .before .before .message-in-range .ensures) ∙ not-false (c .before .before .before .before .before .before .before .before .before .before .message-in-range .result) (c .before .before .before .before .before .before .before .before .before .if1 .left),
     )
 
@@ -61,7 +58,7 @@ returns-6 c =
       eq-eqb _ _ (c .if5 .left),
       c .before .before .before .if4 .left,
       eq-eqb _ _ (c .before .before .before .before .if3 .left),
-      sym (c .before .before .before .before .before .before .before .before .number-fits .ensures) ∙ not-false (c .before .before .before .before .before .before .before .before .number-fits .result) (c .before .before .before .before .before .before .before .if2 .left),
+      le-leb _ _ (c .before .before .before .before .before .before .before .if2 .left),
       sym (c .before .before .before .before .before .before .before .before .before .before .message-in-range .ensures) ∙ not-false (c .before .before .before .before .before .before .before .before .before .before .message-in-range .result) (c .before .before .before .before .before .before .before .before .before .if1 .left),
     )
 
@@ -71,7 +68,6 @@ take-rule-spec =
     (tie.spec
     message-in-range-requires
     returns
-    number-fits-requires
     returns-2
     returns-3
     returns-4
