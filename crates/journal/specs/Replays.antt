@@ -255,5 +255,5 @@ module _ (l j : List ℕ) (n : ℕ) where
   -- what is lent of it
   pub rest-lent : n ≤ length j / stepWidth → replayOn l (take (length j - n * stepWidth) (drop (n * stepWidth) j)) ≡ resumeOn l j n
   rest-lent e =
-    let d = length-drop (n * stepWidth) j in
-    ap (replayOn l) (take-all (length j - n * stepWidth) (drop (n * stepWidth) j) (omega arith)) ∙ sym (rest-some e)
+      let d = length-drop (n * stepWidth) j in
+      ap (replayOn l) (take-all (length j - n * stepWidth) (drop (n * stepWidth) j) (omega arith)) ∙ sym (rest-some e)

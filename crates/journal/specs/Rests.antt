@@ -78,19 +78,19 @@ module _ (i j : List ℕ) (size : length i ≡ imageSize) (whole : length j % st
   rest-steps : stepsOf rest ≡ beyond (end .steps) (stepsOf j)
   unfolding stepsOf
   rest-steps =
-    let fewer : length rest / stepWidth ≡ length j / stepWidth - end .steps = (let h = most in let e = length-drop (end .steps * stepWidth) j in omega arith) in
-    ap (λ (m : ℕ). stepsIn m rest) fewer ∙ steps-beyond (end .steps) (length j / stepWidth) j most
+      let fewer : length rest / stepWidth ≡ length j / stepWidth - end .steps = (let h = most in let e = length-drop (end .steps * stepWidth) j in omega arith) in
+      ap (λ (m : ℕ). stepsIn m rest) fewer ∙ steps-beyond (end .steps) (length j / stepWidth) j most
 
   rest-whole : length rest % stepWidth ≡ 0
   rest-whole = let h = most in let e = length-drop (end .steps * stepWidth) j in omega arith
 
   readable-rest : resumeOn (encode (end .world)) j (end .steps) ≡ record { steps = 0; refusal = end .refusal; image = encode (end .world) }
   readable-rest =
-    let h = read (encode (end .world)) (world-readable (end .world) formed) in
-    rest-some (encode (end .world)) j (end .steps) most
-    ∙ whole-replay (encode (end .world)) rest (h .size) rest-whole (world-readable (end .world) formed)
-    ∙ ap₂ (λ (w : World) (bs : List (List ℕ)). played (replay w bs)) (world-decode (end .world) formed) rest-steps
-    ∙ ap played (rest-stops (decode i) (stepsOf j))
+      let h = read (encode (end .world)) (world-readable (end .world) formed) in
+      rest-some (encode (end .world)) j (end .steps) most
+      ∙ whole-replay (encode (end .world)) rest (h .size) rest-whole (world-readable (end .world) formed)
+      ∙ ap₂ (λ (w : World) (bs : List (List ℕ)). played (replay w bs)) (world-decode (end .world) formed) rest-steps
+      ∙ ap played (rest-stops (decode i) (stepsOf j))
 
 -- for every image and every journal: nothing more is done, and the same refusal comes again
 abbrev pub Same : List ℕ → List ℕ → Type 0

@@ -45,7 +45,7 @@ module _ {l : List ℕ} (h : Legible l) (c kind value : ℕ) (a : 1 ≤ c) (b : 
   unfolding begins guard
   begins-done x l′ f n d =
       does 0 (send (withClient (decode l) c x) (request READ c 0 empty)) l l′ _ (rw (rule, f, room-yes h (omega arith)) refl)
-      (d ∙ with-sent (with-client (image-of h) c a b x) (u + 1) (request READ c 0 empty) (same-used (q ∙ used-is h)) (omega (arith, same-used (q ∙ used-is h))))
+      (d ∙ with-sent (with-client (image-of h) c a b x) (u + 1) (request READ c 0 empty) (same-used (q ∙ used-is h)) (omega (arith, same-used (q ∙ used-is h))) .is)
     where
       same-used : u ≡ decode l .used → u + 1 ≡ withClient (decode l) c x .used + 1
       same-used z = kept-used (decode l) c x u z

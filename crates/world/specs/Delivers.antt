@@ -34,10 +34,6 @@ use Rattle.world.specs.declared.Stepped.the-variants.{StepRefused, StepD
 use Rattle.world.specs.Images.{Legible, Does, putSent}
 use Rattle.world.specs.Stored.{refuses, does, whole, used-is, view-is, server-is, message-is, Image, image-of, with-server, with-sent, room-yes, room-no}
 
--- a step that comes to the same
-pub by : {r : Stepped} {l l′ : List ℕ} {x y : Result After} → y ≡ x → Does r l l′ x → Does r l l′ y
-by {r} {l} {l′} e d = subst (Does r l l′) (sym e) d
-
 kept-used : (w : World) (s : ℕ) (b : Server) (u : ℕ) → u ≡ w .used → u + 1 ≡ withServer w s b .used + 1
 unfolding withServer
 kept-used w s b u e = ap (λ (n : ℕ). n + 1) e
@@ -126,7 +122,7 @@ module _ {l : List ℕ} (h : Legible l) where
     reply-done l′ f d =
         let k = kept-used w s y u (q ∙ used-is h) in
         does 0 (send (withServer w s y) (answer s n x)) l l′ _ (rw (room-yes h (omega arith)) refl)
-        (d ∙ with-sent (with-server (image-of h) s a b y) (u + 1) (answer s n x) k (omega (arith, k)))
+        (d ∙ with-sent (with-server (image-of h) s a b y) (u + 1) (answer s n x) k (omega (arith, k)) .is)
 
   -- ---- deliver
 
@@ -194,4 +190,4 @@ module _ {l : List ℕ} (h : Legible l) where
           let m′ = answer s n (record { view = record { 0 = t }; entry = if (eqb c 0) empty (message w c .entry) }) in
           does 0 (send w m′) l l′ _ (rw (e, allowed d, room-yes h (omega arith)) refl)
           (v ∙ ap (λ (z : Entry). putSent l (u + 1) (answer s n (record { view = record { 0 = t }; entry = z }))) o
-          ∙ with-sent (image-of h) (u + 1) m′ (ap (λ (n : ℕ). n + 1) (i ∙ used-is h)) (omega (arith, i, used-is h)))
+          ∙ with-sent (image-of h) (u + 1) m′ (ap (λ (n : ℕ). n + 1) (i ∙ used-is h)) (omega (arith, i, used-is h)) .is)

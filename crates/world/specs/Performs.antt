@@ -21,7 +21,6 @@ use Rattle.world.specs.declared.Stepped.{Stepped}
 use Rattle.world.specs.declared.Stepped.the-variants.{StepRefused, StepDone}
 use Rattle.world.specs.Images.{Legible, Does}
 use Rattle.world.specs.Stored.{refuses}
-use Rattle.world.specs.Delivers.{by}
 
 -- the kinds of steps
 module _ (w : World) (st : Step) where

@@ -2,7 +2,7 @@
 use Prim.Native.Nat.{ℕ, _+_, _≤_, _<_}
 use native.Mathlib.Omega.{arith}
 use mathlib.Core.Bool.{Bool, true, false}
-use mathlib.Core.Path.{_≡_, refl, sym, ap, _∙_}
+use mathlib.Core.Path.{_≡_, refl, sym, ap, subst, _∙_}
 use mathlib.Core.List.{List}
 use lib.ListN.{length}
 use borrow.Author.Tests.{lt-ltb, le-ltb}
@@ -18,7 +18,7 @@ use Rattle.protocol.specs.Steps.{After, moved}
 use Rattle.codec.specs.Layout.{imageSize}
 use Rattle.codec.specs.Places.{usedAt, putUsed, administratorAt, putAdministrator, viewAt, putView, serverAt, putServer, clientAt, putClient, messageAt, putMessage}
 use Rattle.codec.specs.Images.{encode, decode}
-use Rattle.codec.specs.Laws.{Full, length-encode, put-view, put-server, put-client, put-message, put-administrator, put-send, full-view, full-server, full-client, full-message, full-administrator, used-decode, administrator-decode, decode-full, view-decode, server-decode, client-decode, message-decode}
+use Rattle.codec.specs.Laws.{Full, length-encode, put-view, put-server, put-client, put-message, put-administrator, put-send, full-view, full-server, full-client, full-message, full-administrator, full-send, used-decode, administrator-decode, decode-full, view-decode, server-decode, client-decode, message-decode}
 use Rattle.preservation.specs.Formed.{Formed, formed}
 use Rattle.world.specs.declared.Stepped.{Stepped}
 use Rattle.world.specs.declared.Stepped.the-variants.{StepRefused, StepDone}
@@ -27,6 +27,10 @@ use Rattle.world.specs.Images.{stepped, answered, leftBy, Legible, Does,
 -- a refusal
 pub refuses : (r : Stepped) (n : ℕ) (l : List ℕ) (x : Result After) → stepped r ≡ refused n → x ≡ refused n → Does r l l x
 refuses r n l x p q = record { answer = p ∙ sym (ap answered q); image = sym (ap (leftBy l) q) }
+
+-- a step that comes to the same
+pub by : {r : Stepped} {l l′ : List ℕ} {x y : Result After} → y ≡ x → Does r l l′ x → Does r l l′ y
+by {r} {l} {l′} e d = subst (Does r l l′) (sym e) d
 
 -- a step done
 pub does : (c : ℕ) (w : World) (l l′ : List ℕ) (x : Result After) → x ≡ done (record { world = w; completed = c }) → l′ ≡ encode w → Does (StepDone c) l l′ x
@@ -89,20 +93,28 @@ module _ {l : List ℕ} {w : World} (h : Image l w) where
   with-administrator a = record { is = ap (λ (k : List ℕ). putAdministrator k a) (h .is) ∙ put-administrator w a; full = full-administrator w (h .full) a }
 
   -- the message after the last used
-  pub with-sent : (n : ℕ) (m : Message) → n ≡ w .used + 1 → w .used < messages → putSent l n m ≡ encode (send w m)
+  pub with-sent : (n : ℕ) (m : Message) → n ≡ w .used + 1 → w .used < messages → Image (putSent l n m) (send w m)
   unfolding putSent
-  with-sent n m e u =
-      ap (λ (k : ℕ). putMessage (putUsed l k) k m) e ∙ ap (λ (k : List ℕ). putMessage (putUsed k (w .used + 1)) (w .used + 1) m) (h .is) ∙ put-send w (h .full) u m
+  with-sent n m e u = record { is = sent; full = full-send w (h .full) m }
+    where
+      sent : putMessage (putUsed l n) n m ≡ encode (send w m)
+      sent = ap (λ (k : ℕ). putMessage (putUsed l k) k m) e ∙ ap (λ (k : List ℕ). putMessage (putUsed k (w .used + 1)) (w .used + 1) m) (h .is) ∙ put-send w (h .full) u m
 
--- "10, all 1,023 message numbers used"
+-- "10, all 1,023 message numbers used", or a number is left
+pub room-none : (w : World) → messages ≤ w .used → room w ≡ false
+unfolding room
+room-none w h = le-ltb _ _ h
+
+pub room-some : (w : World) → w .used < messages → room w ≡ true
+unfolding room
+room-some w h = lt-ltb _ _ h
+
 module _ {l : List ℕ} (h : Legible l) where
   pub room-yes : usedAt l < messages → room (decode l) ≡ true
-  unfolding room
-  room-yes e = let u : decode l .used < messages = omega (arith, used-decode l) in lt-ltb _ _ u
+  room-yes e = room-some (decode l) (omega (arith, used-decode l))
 
   pub room-no : messages ≤ usedAt l → room (decode l) ≡ false
-  unfolding room
-  room-no e = let u : messages ≤ decode l .used = omega (arith, used-decode l) in le-ltb _ _ u
+  room-no e = room-none (decode l) (omega (arith, used-decode l))
 
 -- ---- the length stays
 

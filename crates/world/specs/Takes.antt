@@ -42,9 +42,8 @@ use Rattle.codec.specs.Images.{encode, decode}
 use Rattle.codec.specs.Laws.{Full, decode-full, full-message}
 use Rattle.world.specs.declared.Stepped.{Stepped}
 use Rattle.world.specs.Images.{Legible, Does, putSent}
-use Rattle.world.specs.Stored.{Image, image-of, whole, used-is, view-is, client-is, message-is}
+use Rattle.world.specs.Stored.{Image, image-of, whole, used-is, view-is, client-is, message-is, room-none, room-some}
 use Rattle.world.specs.Puts.{message-put, client-put, administrator-put, sent-put}
-use Rattle.world.specs.Views.{room-none, room-some}
 
 -- ---- "From a request the links are followed until zero"
 
@@ -414,10 +413,6 @@ module _ {l : List ℕ} {k : ℕ} (h : Takable l k) where
       → take (decode l) k ≡ clientTaken (decode l) k (message (decode l) (message (decode l) k .request .0) .sender)
   unfolding takes clientTaken
   take-client o n = take-open o ∙ rw (ne-eqb _ _ n)
-
--- a step that is another by an equation
-pub does-as : {r : Stepped} {l l′ : List ℕ} {x y : Result After} → x ≡ y → Does r l l′ y → Does r l l′ x
-does-as {r} {l} {l′} e d = subst (λ (z : Result After). Does r l l′ z) (sym e) d
 
 -- ---- what the records read are
 

@@ -20,17 +20,8 @@ use Rattle.protocol.specs.Laws.Tests.{and-right}
 use Rattle.codec.specs.Places.{usedAt, administratorAt, putAdministrator, putView}
 use Rattle.codec.specs.Images.{encode, decode}
 use Rattle.world.specs.Images.{Legible, putSent}
-use Rattle.world.specs.Stored.{Image, used-is, administrator-is}
+use Rattle.world.specs.Stored.{Image, used-is, administrator-is, room-none, room-some}
 use Rattle.world.specs.Puts.{view-put, administrator-put, sent-put}
-
--- "10, all 1,023 message numbers used", or a number is left
-pub room-none : (w : World) → messages ≤ w .used → room w ≡ false
-unfolding room
-room-none w h = le-ltb _ _ h
-
-pub room-some : (w : World) → w .used < messages → room w ≡ true
-unfolding room
-room-some w h = lt-ltb _ _ h
 
 -- the world after an accepted call
 unfoldable pub calledWorld : World → View → Administrator → World

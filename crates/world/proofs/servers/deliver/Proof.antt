@@ -3,7 +3,8 @@ use mathlib.Core.List.{List}
 use Prim.Native.Nat.{ℕ, _+_}
 use native.Mathlib.Omega.{arith}
 use borrow.Author.Tests.{not-true, not-false}
-use Rattle.world.specs.Delivers.{by, sent-low, tag-low, absent, deliver-no, deliver-kept, deliver-answers}
+use Rattle.world.specs.Stored.{by}
+use Rattle.world.specs.Delivers.{sent-low, tag-low, absent, deliver-no, deliver-kept, deliver-answers}
 use borrow.Author.Needs.{needs}
 use Rattle.world.proofs.servers.deliver.Statement.{statement}
 use Rattle.world.proofs.servers.deliver.Tie as tie

@@ -3,7 +3,7 @@ use borrow.Author.Tests.{not-true, not-false}
 use Rattle.protocol.specs.declared.Step.{Step}
 use Rattle.protocol.specs.Steps.{step}
 use Rattle.codec.specs.Images.{decode}
-use Rattle.world.specs.Delivers.{by}
+use Rattle.world.specs.Stored.{by}
 use Rattle.world.specs.Performs.{unfit, fit}
 use borrow.Author.Needs.{needs}
 use Rattle.world.proofs.step.advance.Statement.{statement}

@@ -3,8 +3,8 @@ use mathlib.Core.Path.{refl, sym, ap, _∙_}
 use borrow.Author.Needs.{needs}
 use Rattle.protocol.specs.Clients.{closing}
 use Rattle.codec.specs.Images.{decode}
-use Rattle.world.specs.Stored.{refuses, does, used-low}
-use Rattle.world.specs.Takes.{close-known, close-refused, close-complete, close-writes, complete-put, does-as}
+use Rattle.world.specs.Stored.{refuses, does, used-low, by}
+use Rattle.world.specs.Takes.{close-known, close-refused, close-complete, close-writes, complete-put}
 use Rattle.world.proofs.take.close_client.Statement.{statement}
 use Rattle.world.proofs.take.close_client.Tie as tie
 
@@ -71,7 +71,7 @@ returns-2 c =
     let a = c5 .args in
     let p = c5 .pre in
     let e = close-known (p .0 .legible) (a .c) (p .1) (p .2) _ _ (a .e) _ (c3 .load-client .ensures) (c4 .load-used .ensures) (c2 .close .ensures) in
-    does-as (close-writes (decode (a .image .now)) (a .k .0) (a .c) (a .e) _ (sym e ∙ ap closing (c1 .closing2 .given .1))) (c .before .before .write-next .ensures)
+    by (close-writes (decode (a .image .now)) (a .k .0) (a .c) (a .e) _ (sym e ∙ ap closing (c1 .closing2 .given .1))) (c .before .before .write-next .ensures)
 
 same-length-3 : tie.Need-same-length-3
 same-length-3 c = search needs

@@ -5,8 +5,8 @@ use borrow.Author.Tests.{not-true, not-false}
 use Rattle.protocol.specs.declared.Message.{Message}
 use Rattle.protocol.specs.Servers.{END, ANSWER}
 use Rattle.codec.specs.Images.{decode}
-use Rattle.world.specs.Stored.{refuses}
-use Rattle.world.specs.Takes.{clientTaken, was-sent, sent-low, sent-kind, sent-other, sent-mark, takable-at, request-low, request-is, asked-kind, asked-at, open-known, asked-end, take-missing, take-other, take-again, take-closed, take-end, take-client, does-as}
+use Rattle.world.specs.Stored.{refuses, by}
+use Rattle.world.specs.Takes.{clientTaken, was-sent, sent-low, sent-kind, sent-other, sent-mark, takable-at, request-low, request-is, asked-kind, asked-at, open-known, asked-end, take-missing, take-other, take-again, take-closed, take-end, take-client}
 use Rattle.world.proofs.take.take.Statement.{statement}
 use Rattle.world.proofs.take.take.Tie as tie
 
@@ -124,7 +124,7 @@ returns-5 c =
     let c10 = c9 .before .before .before in
     let h = takable-at (c10 .pre) _ _ (c9 .present .ensures) (c8 .if1 .left) _ (c7 .load-message .ensures) (c6 .if2 .left) (c5 .if3 .left) in
     let o = sym (open-known h _ (c7 .load-message .ensures) _ (c3 .is-open .ensures)) ∙ not-false _ (c2 .if4 .left) in
-    does-as (take-end h o (asked-kind h _ (c7 .load-message .ensures) _ (c4 .load-message2 .ensures) END (c1 .if5 .taken))) (c .before .before .take-end .ensures)
+    by (take-end h o (asked-kind h _ (c7 .load-message .ensures) _ (c4 .load-message2 .ensures) END (c1 .if5 .taken))) (c .before .before .take-end .ensures)
 
 take-client-requires : tie.Need-take-client-requires
 take-client-requires c κs =
@@ -158,7 +158,7 @@ returns-6 c =
     let h = takable-at (c10 .pre) _ _ (c9 .present .ensures) (c8 .if1 .left) _ (c7 .load-message .ensures) (c6 .if2 .left) (c5 .if3 .left) in
     let o = sym (open-known h _ (c7 .load-message .ensures) _ (c3 .is-open .ensures)) ∙ not-false _ (c2 .if4 .left) in
     let f = request-is h _ (c7 .load-message .ensures) _ (c4 .load-message2 .ensures) in
-    does-as
+    by
     (take-client h o (λ q. c1 .if5 .left (ap (λ (m : Message). m .kind) f ∙ q))
     ∙ ap (λ (m : Message). clientTaken (decode (a .image .now)) (a .k .0) (m .sender)) (sym f))
     (c .before .before .take-client .ensures)

@@ -1,8 +1,8 @@
 use borrow.Author.Needs.{needs}
 use Rattle.protocol.specs.Steps.{link}
 use Rattle.codec.specs.Images.{decode}
-use Rattle.world.specs.Stored.{does}
-use Rattle.world.specs.Takes.{view-low, size-known, client-open, client-closed, does-as}
+use Rattle.world.specs.Stored.{does, by}
+use Rattle.world.specs.Takes.{view-low, size-known, client-open, client-closed}
 use Rattle.world.proofs.take.take_client.Statement.{statement}
 use Rattle.world.proofs.take.take_client.Tie as tie
 
@@ -76,7 +76,7 @@ returns-2 c =
     let a = c7 .args in
     let p = c7 .pre in
     let s = size-known (p .0) (a .c) (p .1) (p .2) _ _ _ _ (c6 .load-message .ensures) (c5 .load-view .ensures) (c4 .load-client .ensures) (c3 .close-size .ensures) in
-    does-as
+    by
     (client-closed (decode (a .image .now)) (a .k .0) (c2 .taken-with .result) (c3 .close-size .result) (c2 .taken-with .ensures) (a .c) s _ (c1 .e .given .1))
     (c .before .before .close-client .ensures)
 

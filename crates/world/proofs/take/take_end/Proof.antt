@@ -5,8 +5,8 @@ use Rattle.protocol.specs.declared.Message.{Message}
 use Rattle.protocol.specs.Sizes.{writeSize}
 use Rattle.protocol.specs.Steps.{link}
 use Rattle.codec.specs.Images.{decode}
-use Rattle.world.specs.Stored.{does, administrator-is}
-use Rattle.world.specs.Takes.{view-low, view-known, answer-is, end-elsewhere, end-open, end-closed, does-as}
+use Rattle.world.specs.Stored.{does, administrator-is, by}
+use Rattle.world.specs.Takes.{view-low, view-known, answer-is, end-elsewhere, end-open, end-closed}
 use Rattle.world.proofs.take.take_end.Statement.{statement}
 use Rattle.world.proofs.take.take_end.Tie as tie
 
@@ -109,7 +109,7 @@ returns-3 c =
     let t = ap (λ (x : Message). x .view .0) (answer-is h _ (c7 .load-message .ensures)) in
     let n = ap (λ (x : Administrator). x .newest .0) (c6 .load-administrator .ensures ∙ administrator-is (h .legible)) in
     let s = c3 .write-size .ensures ∙ ap writeSize (view-known h _ (c7 .load-message .ensures) _ (c4 .load-view .ensures)) in
-    does-as (end-closed w (a .k .0) (c2 .taken-with .result) (c3 .write-size .result) (c2 .taken-with .ensures) (sym t ∙ c5 .if1 .left ∙ n) s _ (c1 .e .given .1))
+    by (end-closed w (a .k .0) (c2 .taken-with .result) (c3 .write-size .result) (c2 .taken-with .ensures) (sym t ∙ c5 .if1 .left ∙ n) s _ (c1 .e .given .1))
     (c .before .before .start-view .ensures)
 
 pub take-end-spec : {M : Type 1} → statement M
