@@ -2,7 +2,7 @@
 pub mod bits;
 pub mod chain;
 pub mod fresh;
-mod plain;
+pub mod plain;
 pub mod premise;
 pub mod readable;
 mod records;

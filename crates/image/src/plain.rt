@@ -10,7 +10,7 @@ use codec::bytes::half2;
 use codec::bytes::word4;
 
 // The entry that begins at place at.
-fn entry_plain(b: &[u8], at: usize) -> bool
+pub fn entry_plain(b: &[u8], at: usize) -> bool
     requires { ⌜ at + entryWidth ≤ length (now b) ⌝ }
     ensures { λ r. ⌜ r ≡ entryPlain (now (b .entry)) at ⌝ }
 {
@@ -24,7 +24,7 @@ fn entry_plain(b: &[u8], at: usize) -> bool
 }
 
 // A number that is 0 where its tag is 0.
-fn number_plain(tag: u8, n: u16) -> bool
+pub fn number_plain(tag: u8, n: u16) -> bool
     ensures { λ r. ⌜ r ≡ (not (eqb tag 0) || eqb n 0) ⌝ }
 {
     if tag != 0 {

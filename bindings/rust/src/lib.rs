@@ -1,0 +1,88 @@
+//! Safe functions over the proved archive register: a world of servers, views,
+//! clients and messages in an image of 21,648 bytes, moved by steps of 12 bytes.
+//! `docs/LAYOUT.md` has every byte of both. The library tests all that it is
+//! given, so no call here has a condition.
+
+mod raw;
+
+/// Bytes of an image, a step, and the records and calls of single machines.
+pub const IMAGE: usize = 21_648;
+pub const STEP: usize = 12;
+pub const SERVER: usize = 20;
+pub const CLIENT: usize = 16;
+pub const ADMINISTRATOR: usize = 4;
+pub const SERVER_CALL: usize = 24;
+pub const CLIENT_CALL: usize = 16;
+pub const ADMINISTRATOR_CALL: usize = 12;
+
+/// Why a call was refused: document 01's number, 1 to 11. A refusal changes no
+/// byte.
+#[derive(Clone, Copy, Debug, PartialEq, Eq)]
+pub struct Refusal(pub u8);
+
+/// What a replay did, and the refusal that stopped it, if one did.
+#[derive(Clone, Copy, Debug, PartialEq, Eq)]
+pub struct Replayed {
+    pub steps: u64,
+    pub stop: Option<Refusal>,
+}
+
+fn refusal(answer: u64) -> Option<Refusal> {
+    match (answer % 256) as u8 {
+        0 => None,
+        number => Some(Refusal(number)),
+    }
+}
+
+fn result(answer: u64) -> Result<u64, Refusal> {
+    match refusal(answer) {
+        None => Ok(answer / 256),
+        Some(refusal) => Err(refusal),
+    }
+}
+
+/// Makes the fresh world of these members, bit s-1 for server s, and f.
+pub fn fresh(image: &mut [u8], members: u32, f: u8) -> Result<(), Refusal> {
+    result(raw::fresh(image, members, f)).map(|_| ())
+}
+
+/// The quorum size of n servers with threshold f.
+pub fn quorum(n: u32, f: u32) -> Result<u32, Refusal> {
+    result(raw::quorum(n, f)).map(|size| size as u32)
+}
+
+/// One step. Gives the number of the client whose operation it completed.
+pub fn step(image: &mut [u8], step: &[u8]) -> Result<Option<u8>, Refusal> {
+    let client = result(raw::step(image, step))?;
+    Ok((client != 0).then_some(client as u8))
+}
+
+/// Whether no view has more faulty servers with its key than its threshold.
+pub fn premise(image: &[u8]) -> Result<bool, Refusal> {
+    result(raw::premise(image)).map(|holds| holds == 1)
+}
+
+/// The steps of a journal up to the first that is refused.
+pub fn replay(image: &mut [u8], journal: &[u8]) -> Replayed {
+    let answer = raw::replay(image, journal);
+    Replayed {
+        steps: answer / 256,
+        stop: refusal(answer),
+    }
+}
+
+/// A server's rule on its record. True if it answers, with the view and entry
+/// of its record.
+pub fn server(server: &mut [u8], call: &[u8]) -> Result<bool, Refusal> {
+    result(raw::server(server, call)).map(|answers| answers == 1)
+}
+
+/// A client's rule on its record. True if its operation is complete.
+pub fn client(client: &mut [u8], call: &[u8]) -> Result<bool, Refusal> {
+    result(raw::client(client, call)).map(|complete| complete == 1)
+}
+
+/// The administrator's rule on its record.
+pub fn administrator(administrator: &mut [u8], call: &[u8]) -> Result<(), Refusal> {
+    result(raw::administrator(administrator, call)).map(|_| ())
+}

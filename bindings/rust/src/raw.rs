@@ -1,0 +1,59 @@
+//! The C interface, each function with a slice for a pointer and its length.
+//!
+//! The library reads and writes only the bytes that it is lent, keeps no pointer,
+//! and allows every length and every byte.
+
+mod c {
+    extern "C" {
+        pub fn zw_fresh(image: *mut u8, n: usize, members: u32, f: u8) -> u64;
+        pub fn zw_quorum(n: u32, f: u32) -> u64;
+        pub fn zw_step(image: *mut u8, n: usize, step: *const u8, m: usize) -> u64;
+        pub fn zw_premise(image: *const u8, n: usize) -> u64;
+        pub fn zw_replay(image: *mut u8, n: usize, journal: *const u8, m: usize) -> u64;
+        pub fn zw_server(server: *mut u8, n: usize, call: *const u8, m: usize) -> u64;
+        pub fn zw_client(client: *mut u8, n: usize, call: *const u8, m: usize) -> u64;
+        pub fn zw_administrator(record: *mut u8, n: usize, call: *const u8, m: usize) -> u64;
+    }
+}
+
+type OnRecord = unsafe extern "C" fn(*mut u8, usize, *const u8, usize) -> u64;
+
+fn on(function: OnRecord, lent: &mut [u8], read: &[u8]) -> u64 {
+    // SAFETY: both are pointer and length of slices, which do not overlap.
+    unsafe { function(lent.as_mut_ptr(), lent.len(), read.as_ptr(), read.len()) }
+}
+
+pub fn fresh(image: &mut [u8], members: u32, f: u8) -> u64 {
+    // SAFETY: the pointer and length are those of a slice lent for writing.
+    unsafe { c::zw_fresh(image.as_mut_ptr(), image.len(), members, f) }
+}
+
+pub fn quorum(n: u32, f: u32) -> u64 {
+    // SAFETY: the call takes numbers alone.
+    unsafe { c::zw_quorum(n, f) }
+}
+
+pub fn premise(image: &[u8]) -> u64 {
+    // SAFETY: the pointer and length are those of a slice.
+    unsafe { c::zw_premise(image.as_ptr(), image.len()) }
+}
+
+pub fn step(image: &mut [u8], step: &[u8]) -> u64 {
+    on(c::zw_step, image, step)
+}
+
+pub fn replay(image: &mut [u8], journal: &[u8]) -> u64 {
+    on(c::zw_replay, image, journal)
+}
+
+pub fn server(server: &mut [u8], call: &[u8]) -> u64 {
+    on(c::zw_server, server, call)
+}
+
+pub fn client(client: &mut [u8], call: &[u8]) -> u64 {
+    on(c::zw_client, client, call)
+}
+
+pub fn administrator(administrator: &mut [u8], call: &[u8]) -> u64 {
+    on(c::zw_administrator, administrator, call)
+}

@@ -1,0 +1,206 @@
+//! The worked session, the marked sizes and each machine's rules through the
+//! safe functions.
+
+use zemawulo::{
+    administrator, client, fresh, premise, quorum, replay, server, step, Refusal, Replayed, IMAGE,
+};
+
+fn step_bytes(kind: u8, who: u8, message: u16, value: u32) -> [u8; 12] {
+    let mut bytes = [0; 12];
+    bytes[0] = kind;
+    bytes[1] = who;
+    bytes[4..6].copy_from_slice(&message.to_le_bytes());
+    bytes[8..].copy_from_slice(&value.to_le_bytes());
+    bytes
+}
+
+/// The steps of document 01's worked session.
+fn worked() -> Vec<[u8; 12]> {
+    let mut steps = vec![step_bytes(1, 1, 0, 7)];
+    for request in [1, 3] {
+        steps.push(step_bytes(3, 1, request, 0));
+        steps.push(step_bytes(4, 0, request + 1, 0));
+    }
+    steps.push(step_bytes(2, 2, 0, 0));
+    for request in [5, 7] {
+        steps.push(step_bytes(3, 1, request, 0));
+        steps.push(step_bytes(4, 0, request + 1, 0));
+    }
+    steps
+}
+
+fn entry(count: u32, writer: u8, value: u32) -> [u8; 12] {
+    let mut bytes = [0; 12];
+    bytes[..4].copy_from_slice(&count.to_le_bytes());
+    bytes[4] = writer;
+    bytes[8..].copy_from_slice(&value.to_le_bytes());
+    bytes
+}
+
+#[test]
+fn worked_session_step_by_step() {
+    let mut image = vec![0; IMAGE];
+    fresh(&mut image, 1, 0).unwrap();
+    let mut completed = Vec::new();
+    for bytes in worked() {
+        if let Some(number) = step(&mut image, &bytes).unwrap() {
+            let at = 912 + 16 * (usize::from(number) - 1);
+            completed.push((number, image[at + 1], image[at + 4..at + 16].to_vec()));
+        }
+    }
+    let result = entry(1, 1, 7).to_vec();
+    assert_eq!(completed, [(1, 1, result.clone()), (2, 2, result)]);
+    assert_eq!(premise(&image), Ok(true));
+}
+
+#[test]
+fn replay_gives_the_same_image_and_stops_where_it_must() {
+    let mut one_by_one = vec![0; IMAGE];
+    fresh(&mut one_by_one, 1, 0).unwrap();
+    for bytes in worked() {
+        step(&mut one_by_one, &bytes).unwrap();
+    }
+    let mut journal: Vec<u8> = worked().concat();
+    let mut image = vec![0; IMAGE];
+    fresh(&mut image, 1, 0).unwrap();
+    let all = Replayed {
+        steps: 10,
+        stop: None,
+    };
+    assert_eq!(replay(&mut image, &journal), all);
+    assert_eq!(image, one_by_one);
+
+    fresh(&mut image, 1, 0).unwrap();
+    journal.extend_from_slice(&step_bytes(4, 0, 2, 0));
+    let stopped = Replayed {
+        steps: 10,
+        stop: Some(Refusal(7)),
+    };
+    assert_eq!(replay(&mut image, &journal), stopped);
+    assert_eq!(image, one_by_one);
+    journal.pop();
+    let uneven = Replayed {
+        steps: 0,
+        stop: Some(Refusal(1)),
+    };
+    assert_eq!(replay(&mut image, &journal), uneven);
+}
+
+#[test]
+fn marked_sizes() {
+    let marked = [
+        (1, 0, 1),
+        (2, 0, 2),
+        (3, 0, 2),
+        (4, 1, 3),
+        (5, 1, 4),
+        (6, 1, 4),
+        (7, 2, 5),
+        (10, 3, 7),
+        (32, 10, 22),
+    ];
+    for (n, f, size) in marked {
+        assert_eq!(quorum(n, f), Ok(size));
+    }
+    for (n, f) in [(0, 0), (3, 1), (32, 11), (33, 0), (32, u32::MAX)] {
+        assert_eq!(quorum(n, f), Err(Refusal(8)));
+    }
+}
+
+#[test]
+fn refusals_change_no_byte() {
+    let mut image = vec![7; IMAGE];
+    assert_eq!(fresh(&mut image, 0, 0), Err(Refusal(8)));
+    assert_eq!(fresh(&mut image[1..], 1, 0), Err(Refusal(1)));
+    assert_eq!(step(&mut image, &[0; 12]), Err(Refusal(2)));
+    assert_eq!(step(&mut image, &[0; 11]), Err(Refusal(1)));
+    assert_eq!(premise(&image), Err(Refusal(2)));
+    assert_eq!(premise(&[]), Err(Refusal(1)));
+    assert!(image.iter().all(|&byte| byte == 7));
+}
+
+/// What is asked of a server: the rule, a flag, a view, and a message.
+fn asked(rule: u8, flag: u8, view: u8, message: [u8; 8], entry: [u8; 12]) -> Vec<u8> {
+    [&[rule, flag, view, 0][..], &message, &entry].concat()
+}
+
+#[test]
+fn one_server() {
+    let none = entry(0, 0, 0);
+    let mut record = [&[1, 0, 0, 0, 1, 0, 0, 0][..], &none].concat();
+    let written = entry(1, 1, 7);
+    let write = asked(3, 0, 0, [2, 1, 0, 0, 0, 0, 0, 0], written);
+    assert_eq!(server(&mut record, &write), Ok(true));
+    assert_eq!(&record[8..], &written);
+    let end = asked(3, 0, 0, [3, 0, 1, 0, 0, 0, 0, 0], none);
+    assert_eq!(server(&mut record, &end), Ok(true));
+    assert_eq!(&record[..8], &[1, 0, 0, 0, 0, 0, 0, 0]);
+    let before = record.clone();
+    assert_eq!(server(&mut record, &end), Err(Refusal(7)));
+    let start = [4, 0, 2, 0, 0, 0, 0, 0];
+    assert_eq!(server(&mut record, &asked(3, 0, 0, start, none)), Err(Refusal(7)));
+    assert_eq!(server(&mut record, &asked(3, 2, 0, start, none)), Err(Refusal(3)));
+    assert_eq!(server(&mut record, &asked(3, 1, 1, start, none)), Err(Refusal(3)));
+    assert_eq!(server(&mut record[1..], &end), Err(Refusal(1)));
+    assert_eq!(server(&mut record, &end[1..]), Err(Refusal(1)));
+    assert_eq!(record, before);
+    assert_eq!(server(&mut record, &asked(3, 1, 0, start, none)), Ok(false));
+    assert_eq!(&record[..8], &[2, 0, 0, 0, 2, 0, 0, 0]);
+    assert_eq!(&record[8..], &written);
+}
+
+#[test]
+fn one_faulty_server() {
+    let none = entry(0, 0, 0);
+    let mut record = [&[1, 1, 0, 0, 1, 0, 0, 0][..], &none].concat();
+    let before = record.clone();
+    let read = [1, 1, 0, 0, 0, 0, 0, 0];
+    assert_eq!(server(&mut record, &asked(3, 0, 0, read, none)), Err(Refusal(6)));
+    assert_eq!(server(&mut record, &asked(6, 1, 1, read, none)), Ok(false));
+    assert_eq!(server(&mut record, &asked(6, 0, 1, read, none)), Err(Refusal(5)));
+    assert_eq!(server(&mut record, &asked(6, 1, 2, read, none)), Err(Refusal(9)));
+    assert_eq!(server(&mut record, &asked(6, 1, 0, read, none)), Err(Refusal(3)));
+    assert_eq!(server(&mut record, &asked(5, 1, 1, read, none)), Err(Refusal(3)));
+    assert_eq!(record, before);
+}
+
+#[test]
+fn one_client() {
+    let none = entry(0, 0, 0);
+    let mut record = vec![0; 16];
+    let write = [&[1, 0, 1, 0][..], &entry(0, 0, 7)].concat();
+    assert_eq!(client(&mut record, &write), Ok(false));
+    assert_eq!(record, [&[1, 1, 1, 0][..], &entry(0, 0, 7)].concat());
+    assert_eq!(client(&mut record, &write), Err(Refusal(4)));
+    let close = [&[4, 3, 2, 0][..], &entry(5, 2, 9)].concat();
+    assert_eq!(client(&mut record, &close), Ok(false));
+    assert_eq!(record, [&[2, 1, 2, 0][..], &entry(6, 3, 7)].concat());
+    assert_eq!(client(&mut record, &close), Ok(true));
+    assert_eq!(record, [&[0, 1, 0, 0][..], &entry(6, 3, 7)].concat());
+    assert_eq!(client(&mut record, &close), Err(Refusal(7)));
+    let read = [&[2, 0, 9, 0][..], &none].concat();
+    assert_eq!(client(&mut record, &read), Ok(false));
+    let full = [&[4, 3, 2, 0][..], &entry(u32::MAX, 2, 9)].concat();
+    assert_eq!(client(&mut record, &full), Ok(false));
+    let mut writer = [&[1, 1, 1, 0][..], &entry(0, 0, 7)].concat();
+    assert_eq!(client(&mut writer, &full), Err(Refusal(11)));
+    let with_who = [&[2, 1, 9, 0][..], &none].concat();
+    assert_eq!(client(&mut record, &with_who), Err(Refusal(3)));
+}
+
+#[test]
+fn the_administrator() {
+    let mut record = [1, 0, 0, 0];
+    let view = [&[7, 0, 5, 0][..], &[15, 0, 0, 0, 1, 0, 0, 0]].concat();
+    let small = [&[7, 0, 5, 0][..], &[7, 0, 0, 0, 1, 0, 0, 0]].concat();
+    let close = [&[4, 0, 0, 0][..], &[0; 8]].concat();
+    assert_eq!(administrator(&mut record, &close), Err(Refusal(7)));
+    assert_eq!(administrator(&mut record, &small), Err(Refusal(8)));
+    assert_eq!(administrator(&mut record, &view), Ok(()));
+    assert_eq!(record, [1, 1, 5, 0]);
+    assert_eq!(administrator(&mut record, &view), Err(Refusal(4)));
+    assert_eq!(administrator(&mut record, &close), Ok(()));
+    assert_eq!(record, [2, 0, 0, 0]);
+    assert_eq!(administrator(&mut record, &view[1..]), Err(Refusal(1)));
+    assert_eq!(administrator(&mut [1, 0, 5, 0], &view), Err(Refusal(3)));
+}

@@ -1,0 +1,94 @@
+-- What the program does with each record of its input. Assumes nothing.
+use Prim.Native.Nat.{ℕ, _≤_, _<_}
+use mathlib.Core.Bool.{Bool, true, false, _&&_}
+use mathlib.Core.Path.{_≡_, refl, sym, ap, ap₂, _∙_}
+use mathlib.Core.Logic.{_⊎_, inl, inr}
+use mathlib.Core.List.{List, []}
+use native.Mathlib.Omega.{arith}
+use lib.ListN.{length, take-append-drop}
+use lib.Dec.{leb, eqb}
+use borrow.Author.Tests.{le-leb, lt-leb}
+use Rattle.protocol.specs.declared.Client.{Client}
+use Rattle.protocol.specs.declared.Step.{Step}
+use Rattle.protocol.specs.Tools.{if, within, Result, refused, done}
+use Rattle.protocol.specs.Sizes.{clients}
+use Rattle.protocol.specs.Steps.{After}
+use Rattle.protocol.specs.Runs.{stepWidth, stepOf}
+use Rattle.codec.specs.Lists.{put}
+use Rattle.codec.specs.Places.{clientAt}
+use Rattle.codec.specs.Images.{encode}
+use Rattle.image.specs.Fresh.{Outcome, freshOn}
+use Rattle.consistency.specs.Steps.{leftBy}
+use Rattle.world.specs.declared.Stepped.{Stepped}
+use Rattle.world.specs.declared.Stepped.the-variants.{StepRefused, StepDone}
+use Rattle.world.specs.Images.{stepped, Does}
+use Rattle.lines.specs.Lines.{operationLine}
+use Rattle.archive_run.specs.declared.turns.Moved.{Moved}
+use Rattle.archive_run.specs.declared.turns.Moved.the-variants.{Stopped, Went}
+
+-- "12 bytes (kind 0, f, member bits in value, other fields zero)"
+unfoldable pub firstFits : Step → Bool
+firstFits s = eqb (s .kind) 0 && (eqb (s .who) 0 && (eqb (s .view .0) 0 && (eqb (s .message .0) 0 && eqb (s .source .0) 0)))
+
+-- "A record cut short stops it with 1, a first record of another form with 3, a refused world with 8."
+unfoldable pub firstOn : List ℕ → List ℕ → Outcome
+firstOn i b =
+    if (eqb (length b) stepWidth)
+    (if (firstFits (stepOf b)) (freshOn i (stepOf b .value) (stepOf b .f)) (record { refusal = 3; image = i }))
+    (record { refusal = 1; image = i })
+
+-- the line of the operation that client c completed, from its record in the image; none for no client
+unfoldable pub lineOn : List ℕ → ℕ → List ℕ
+lineOn i c = if (within 1 clients c) (operationLine c (clientAt i c)) []
+
+-- "one line per completed operation": the line that a step leaves
+abbrev pub lineAfter : Result After → List ℕ
+lineAfter (refused n) = []
+lineAfter (done a) = lineOn (encode (a .world)) (a .completed)
+
+-- a step's refusal, or the length of its line
+abbrev pub measured : Result After → Result ℕ
+measured (refused n) = refused n
+measured (done a) = done (length (lineOn (encode (a .world)) (a .completed)))
+
+-- the number and the value of each case of a turn
+abbrev pub turned : Moved → Result ℕ
+turned (Stopped n) = refused n
+turned (Went k) = done k
+
+-- ---- the line of a client's number
+
+pub put-none : (l : List ℕ) → l ≡ put l 0 []
+unfolding put
+put-none l = sym (take-append-drop 0 l)
+
+pub line-none : (i out : List ℕ) (c : ℕ) → (c < 1) ⊎ (clients < c) → (0 ≡ length (lineOn i c)) × (out ≡ put out 0 (lineOn i c))
+unfolding lineOn
+line-none i out c (inl h) = let e : within 1 clients c ≡ false = simp (lt-leb _ _ h) in (rw e, rw e (put-none out))
+line-none i out c (inr h) = let a : leb 1 c ≡ true = le-leb 1 c (omega arith) in let e : within 1 clients c ≡ false = simp (a, lt-leb _ _ h) in (rw e, rw e (put-none out))
+
+pub line-some : (i out out′ : List ℕ) (c k : ℕ) (v : Client) → 1 ≤ c → c ≤ clients → v ≡ clientAt i c → k ≡ length (operationLine c v)
+    → out′ ≡ put out 0 (operationLine c v) → (k ≡ length (lineOn i c)) × (out′ ≡ put out 0 (lineOn i c))
+unfolding lineOn
+line-some i out out′ c k v a b e p q =
+    let w : within 1 clients c ≡ true = simp (le-leb _ _ a, le-leb _ _ b) in
+    let t : operationLine c v ≡ operationLine c (clientAt i c) = ap (operationLine c) e in
+    (rw w (p ∙ ap (λ (s : List ℕ). length s) t), rw w (q ∙ ap (put out 0) t))
+
+-- ---- a turn is its step
+
+pub turn-stopped : (x : Result After) (r : Stepped) (n : ℕ) (l l′ out : List ℕ) → Does r l l′ x → r ≡ StepRefused n
+    → (refused n ≡ measured x) × (l′ ≡ leftBy l x) × (out ≡ put out 0 (lineAfter x))
+turn-stopped (refused m) r n l l′ out d e = (ap stepped (sym e) ∙ d .answer, d .image, put-none out)
+turn-stopped (done a) r n l l′ out d e = absurd (let e′ : refused n ≡ done (a .completed) = ap stepped (sym e) ∙ d .answer in let z : _≡_ {A = ℕ} 0 1 = cc in omega arith)
+
+pub turn-went : (x : Result After) (r : Stepped) (c k : ℕ) (l l′ out out′ : List ℕ) → Does r l l′ x → r ≡ StepDone c → k ≡ length (lineOn l′ c)
+    → out′ ≡ put out 0 (lineOn l′ c) → (done k ≡ measured x) × (l′ ≡ leftBy l x) × (out′ ≡ put out 0 (lineAfter x))
+turn-went (refused m) r c k l l′ out out′ d e p q = absurd (let e′ : done c ≡ refused m = ap stepped (sym e) ∙ d .answer in let z : _≡_ {A = ℕ} 0 1 = cc in omega arith)
+turn-went (done a) r c k l l′ out out′ d e p q =
+    let n : c ≡ a .completed = same-number (ap stepped (sym e) ∙ d .answer) in
+    let t : lineOn l′ c ≡ lineOn (encode (a .world)) (a .completed) = ap₂ lineOn (d .image) n in
+    (ap done (p ∙ ap (λ (s : List ℕ). length s) t), d .image, q ∙ ap (put out 0) t)
+  where
+    same-number : {x y : ℕ} → done x ≡ done y → x ≡ y
+    same-number e = cc

@@ -1,0 +1,82 @@
+// The program: standard input to lines.
+pub mod turns;
+
+ghost use mathlib.Core.Path.{_≡_};
+ghost use lib.ListN.{length};
+ghost use Rattle.codec.specs.Layout.{imageSize};
+use codec::layout::IMAGE;
+use codec::layout::STEP;
+use libc::STDIN_FILENO;
+use libc::STDOUT_FILENO;
+use lines::LINE;
+use lines::done_line;
+use turns::Moved;
+use turns::first;
+use turns::turn;
+
+// More turns than any world has steps, so that the input is never cut short. An accepted step sends a message, of which there
+// are 1,023, or takes an answer for the first time, at most as often, or turns one of 32 servers faulty, or is a START, which
+// gives one of them a view or key above its own that it had not: 1,023 + 1,023 + 32 + 32 * 32 = 3,102 steps in all.
+const TURNS: u32 = 4096;
+
+// What a turn left to do: the next one, or the last line with the refusal of the stop or 0.
+enum Onward {
+    More,
+    Stop(u8),
+}
+
+fn print(line: &[u8], n: usize) {
+    if n <= line.len() {
+        io::write_all(STDOUT_FILENO, &line[..n]);
+    }
+}
+
+fn finish(steps: u32, refusal: u8) {
+    let mut line = [0u8; LINE];
+    let n = done_line(&mut line, steps, refusal);
+    print(&line, n);
+}
+
+// Reads a record, takes its step and prints the line of the operation that it completed.
+fn next(image: &mut [u8]) -> Onward
+    requires { ⌜ length (now image) ≡ imageSize ⌝ }
+{
+    let mut bytes = [0u8; STEP];
+    let mut line = [0u8; LINE];
+    let got = io::read_full(STDIN_FILENO, &mut bytes);
+    if got == 0 {
+        return Onward::Stop(0);
+    }
+    let t = turn(image, &bytes[..got], &mut line);
+    match t {
+        Moved::Stopped(refusal) => Onward::Stop(refusal),
+        Moved::Went(n) => {
+            print(&line, n);
+            Onward::More
+        }
+    }
+}
+
+fn steps(image: &mut [u8])
+    requires { ⌜ length (now image) ≡ imageSize ⌝ }
+{
+    for k in 0..TURNS {
+        if let Onward::Stop(refusal) = next(image) {
+            finish(k, refusal);
+            return;
+        }
+    }
+}
+
+// The whole program.
+pub fn run() {
+    let mut image = [0u8; IMAGE];
+    let mut bytes = [0u8; STEP];
+    let got = io::read_full(STDIN_FILENO, &mut bytes);
+    let refusal = first(&mut image, &bytes[..got]);
+    if refusal != 0 {
+        finish(0, refusal);
+        return;
+    }
+    steps(&mut image);
+}

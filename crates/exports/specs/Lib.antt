@@ -1,0 +1,5 @@
+pub mod Answers
+pub mod Records
+pub mod Rules
+pub mod Calls
+pub mod Shown

@@ -1,0 +1,141 @@
+// The C interface. Every answer is refusal + 256 * result.
+mod calls;
+mod records;
+mod rules;
+
+ghost use mathlib.Core.Path.{_≡_};
+ghost use Rattle.protocol.specs.Sizes.{quorumSize};
+ghost use Rattle.image.specs.Fresh.{freshOn};
+ghost use Rattle.image.specs.Premise.{premiseOn};
+ghost use Rattle.consistency.specs.Steps.{stepOn, leftBy, answered};
+ghost use Rattle.journal.specs.Replays.{replayOn};
+ghost use Rattle.exports.specs.Answers.{packed, flagged, packedReplay};
+ghost use Rattle.exports.specs.Calls.{serverCall, replied, serverLeft, clientCall, completed, clientLeft, administratorCall, accepted, administratorLeft};
+use calls::administrator_call;
+use calls::client_call;
+use calls::server_call;
+use image::fresh::fresh;
+use image::premise::Report;
+use image::premise::premise;
+use journal::replay::replay;
+use machines::sizes::QuorumSize;
+use machines::sizes::quorum_size;
+use protocol::Called;
+use protocol::Closing;
+use protocol::Served;
+use records::write_administrator;
+use records::write_client;
+use records::write_server;
+use world::Stepped;
+use world::step::step;
+
+// What is left of an answer beside the refusal: 2^56. No world has as many steps.
+const STEPS: u64 = 72057594037927936;
+
+// "Fresh world (member bits, f)": refusal.
+#[no_mangle]
+pub extern "C" fn zw_fresh(image: &mut [u8], members: u32, f: u8) -> u64
+    ensures { λ r. ⌜ (r ≡ freshOn (now (image .entry)) members f .refusal) × (now (image .exit) ≡ freshOn (now (image .entry)) members f .image) ⌝ }
+{
+    fresh(image, members, f) as u64
+}
+
+// "Quorum size (n, f)": refusal, size.
+#[no_mangle]
+pub extern "C" fn zw_quorum(n: u32, f: u32) -> u64
+    ensures { λ r. ⌜ r ≡ packed (quorumSize n f) ⌝ }
+{
+    let size = quorum_size(n, f);
+    match size {
+        QuorumSize::SizeRefused(x) => x as u64,
+        QuorumSize::Size(q) => 256 * (q as u64),
+    }
+}
+
+// "Any step": refusal, the client whose operation completed or 0.
+#[no_mangle]
+pub extern "C" fn zw_step(image: &mut [u8], bytes: &[u8]) -> u64
+    ensures { λ r. ⌜ (r ≡ packed (answered (stepOn (now (image .entry)) (now (bytes .entry))))) × (now (image .exit) ≡ leftBy (now (image .entry)) (stepOn (now (image .entry)) (now (bytes .entry)))) ⌝ }
+{
+    let answer = step(image, bytes);
+    match answer {
+        Stepped::StepRefused(x) => x as u64,
+        Stepped::StepDone(c) => 256 * (c as u64),
+    }
+}
+
+// "Premise report": refusal, 1 if it holds.
+#[no_mangle]
+pub extern "C" fn zw_premise(image: &[u8]) -> u64
+    ensures { λ r. ⌜ r ≡ packed (flagged (premiseOn (now (image .entry)))) ⌝ }
+{
+    let report = premise(image);
+    match report {
+        Report::Refused(x) => x as u64,
+        Report::Holds => 256,
+        Report::Fails => 0,
+    }
+}
+
+// "Replay (image, journal)": refusal, steps done.
+#[no_mangle]
+pub extern "C" fn zw_replay(image: &mut [u8], journal: &[u8]) -> u64
+    ensures { λ r. ⌜ (r ≡ packedReplay (replayOn (now (image .entry)) (now (journal .entry)))) × (now (image .exit) ≡ replayOn (now (image .entry)) (now (journal .entry)) .image) ⌝ }
+{
+    let done = replay(image, journal);
+    let steps = (done.steps as u64) % STEPS;
+    done.refusal as u64 + 256 * steps
+}
+
+// A server's rule on its record: refusal, 1 if it answers.
+#[no_mangle]
+pub extern "C" fn zw_server(server: &mut [u8], call: &[u8]) -> u64
+    ensures { λ r. ⌜ (r ≡ packed (replied (serverCall (now (server .entry)) (now (call .entry))))) × (now (server .exit) ≡ serverLeft (now (server .entry)) (serverCall (now (server .entry)) (now (call .entry)))) ⌝ }
+{
+    let reply = server_call(server, call);
+    match reply {
+        Served::ServeRefused(x) => x as u64,
+        Served::Kept(a) => {
+            write_server(server, a);
+            0
+        }
+        Served::Answered(a, _) => {
+            write_server(server, a);
+            256
+        }
+    }
+}
+
+// A client's rule on its record: refusal, 1 if its operation is complete.
+#[no_mangle]
+pub extern "C" fn zw_client(client: &mut [u8], call: &[u8]) -> u64
+    ensures { λ r. ⌜ (r ≡ packed (completed (clientCall (now (client .entry)) (now (call .entry))))) × (now (client .exit) ≡ clientLeft (now (client .entry)) (clientCall (now (client .entry)) (now (call .entry)))) ⌝ }
+{
+    let step = client_call(client, call);
+    match step {
+        Closing::CloseRefused(x) => x as u64,
+        Closing::WritesNext(c) => {
+            write_client(client, c);
+            0
+        }
+        Closing::Completed(c) => {
+            write_client(client, c);
+            256
+        }
+    }
+}
+
+// The administrator's rule on its record: refusal.
+#[no_mangle]
+pub extern "C" fn zw_administrator(administrator: &mut [u8], call: &[u8]) -> u64
+    ensures { λ r. ⌜ (r ≡ packed (accepted (administratorCall (now (administrator .entry)) (now (call .entry))))) × (now (administrator .exit) ≡ administratorLeft (now (administrator .entry)) (administratorCall (now (administrator .entry)) (now (call .entry)))) ⌝ }
+{
+    let step = administrator_call(administrator, call);
+    match step {
+        Called::CallRefused(x) => x as u64,
+        Called::Calling(a) => {
+            write_administrator(administrator, a);
+            0
+        }
+    }
+}

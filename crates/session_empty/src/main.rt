@@ -1,0 +1,4 @@
+// A session of the program: no input.
+fn main() {
+    archive_run::run();
+}

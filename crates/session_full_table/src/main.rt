@@ -1,0 +1,4 @@
+// A session of the program: all message numbers are used.
+fn main() {
+    archive_run::run();
+}

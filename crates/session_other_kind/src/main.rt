@@ -1,0 +1,4 @@
+// A session of the program: its first record is of another form.
+fn main() {
+    archive_run::run();
+}

@@ -1,0 +1,87 @@
+/* The archive's register: a world of servers, views, clients and messages in a
+ * lent image of 21,648 bytes, moved by steps of 12 bytes. docs/LAYOUT.md has
+ * every byte of both.
+ *
+ * Every answer is refusal + 256 * result, and 0 as refusal means done. Beside a
+ * refusal the result is 0, but for the steps of a replay, and no lent byte is
+ * changed, but for what a replay did before its stop. No call allocates memory,
+ * keeps a pointer or has a state of its own. Any length is allowed and any byte:
+ * what does not fit is refused. Buffers of one call must not overlap; one that
+ * is only read may be of any kind of memory that no other thread writes. */
+#ifndef ZEMAWULO_H
+#define ZEMAWULO_H
+
+#include <stddef.h>
+#include <stdint.h>
+
+#ifdef __cplusplus
+extern "C" {
+#endif
+
+#define ZW_IMAGE 21648         /* bytes of an image */
+#define ZW_STEP 12             /* bytes of a step */
+#define ZW_SERVER 20           /* bytes of a server's record */
+#define ZW_CLIENT 16           /* bytes of a client's record */
+#define ZW_ADMINISTRATOR 4     /* bytes of the administrator's record */
+#define ZW_SERVER_CALL 24      /* bytes of what is asked of a server */
+#define ZW_CLIENT_CALL 16      /* bytes of what is asked of a client */
+#define ZW_ADMINISTRATOR_CALL 12 /* bytes of what is asked of the administrator */
+
+/* Refusals. */
+enum zw_refusal {
+    ZW_DONE = 0,
+    ZW_LENGTH = 1,      /* a buffer of wrong length */
+    ZW_UNREADABLE = 2,  /* no image of a world */
+    ZW_RANGE = 3,       /* unknown kind, a field out of range or an unused one set */
+    ZW_BUSY = 4,        /* client not idle; the newest view is being ended */
+    ZW_NO_MESSAGE = 5,  /* no such message, or of the wrong kind */
+    ZW_FAULTY = 6,      /* the server is faulty, or is not */
+    ZW_NO_RULE = 7,     /* the rule does not apply */
+    ZW_SIZE = 8,        /* size rule broken, or no view is left */
+    ZW_NO_KEY = 9,      /* the server lacks that key */
+    ZW_FULL = 10,       /* all message numbers are used */
+    ZW_COUNT = 11       /* the write would need too large a count */
+};
+
+static inline unsigned zw_refusal_of(uint64_t answer) { return (unsigned)(answer & 255); }
+static inline uint64_t zw_result_of(uint64_t answer) { return answer >> 8; }
+
+/* Makes the fresh world of these members (bit s-1 is server s) and f.
+ * Result 0. Refusals 1, 8. */
+uint64_t zw_fresh(uint8_t *image, size_t n, uint32_t members, uint8_t f);
+
+/* The quorum size of n servers with threshold f. Refusal 8. */
+uint64_t zw_quorum(uint32_t n, uint32_t f);
+
+/* One step. Result: the number of the client whose operation it completed, or
+ * 0; the operation's entry is in that client's record. Refusals 1 to 11. */
+uint64_t zw_step(uint8_t *image, size_t n, const uint8_t *step, size_t m);
+
+/* Whether no view has more faulty servers with its key than its threshold.
+ * Result 1 if so. Refusals 1, 2. */
+uint64_t zw_premise(const uint8_t *image, size_t n);
+
+/* The steps of a journal, one behind the other, up to the first that is
+ * refused. Result: the steps done, beside a refusal too. */
+uint64_t zw_replay(uint8_t *image, size_t n, const uint8_t *journal, size_t m);
+
+/* The rules of one machine, on its record alone, as a real machine runs them.
+ * docs/LAYOUT.md has what is asked of it. Refusals 1, 3, then as its step, but
+ * 10: only the world knows how many message numbers are used. */
+
+/* A server: a message reaches it, or a faulty one gives a false answer.
+ * Result 1 if it answers, with the view and entry of its record. */
+uint64_t zw_server(uint8_t *server, size_t n, const uint8_t *call, size_t m);
+
+/* A client: it begins a write or a read, or its phase closes with an entry.
+ * Result 1 if its operation is complete. */
+uint64_t zw_client(uint8_t *client, size_t n, const uint8_t *call, size_t m);
+
+/* The administrator: it calls a new view, or END closes. Result 0. */
+uint64_t zw_administrator(uint8_t *administrator, size_t n, const uint8_t *call, size_t m);
+
+#ifdef __cplusplus
+}
+#endif
+
+#endif
