@@ -1,2 +1,3 @@
+pub mod Accepted
 pub mod Replays
 pub mod Rests
