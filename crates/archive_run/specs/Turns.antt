@@ -1,27 +1,34 @@
 -- What the program does with each record of its input. Assumes nothing.
 use Prim.Native.Nat.{ℕ, _≤_, _<_}
 use mathlib.Core.Bool.{Bool, true, false, _&&_}
-use mathlib.Core.Path.{_≡_, refl, sym, ap, ap₂, _∙_}
+use mathlib.Core.Path.{_≡_, refl, sym, ap, ap₂, subst, _∙_}
 use mathlib.Core.Logic.{_⊎_, inl, inr}
 use mathlib.Core.List.{List, []}
 use native.Mathlib.Omega.{arith}
 use lib.ListN.{length, take-append-drop}
 use lib.Dec.{leb, eqb}
-use borrow.Author.Tests.{le-leb, lt-leb}
+use borrow.Author.Tests.{le-leb, lt-leb, eq-eqb, ne-eqb}
 use Rattle.protocol.specs.declared.Client.{Client}
 use Rattle.protocol.specs.declared.Step.{Step}
-use Rattle.protocol.specs.Tools.{if, within, Result, refused, done}
+use Rattle.protocol.specs.Tools.{if, within, Result, refused, done, guard}
 use Rattle.protocol.specs.Sizes.{clients}
-use Rattle.protocol.specs.Steps.{After}
+use Rattle.protocol.specs.Steps.{After, step}
 use Rattle.protocol.specs.Runs.{stepWidth, stepOf}
+use Rattle.protocol.specs.declared.View.{View}
+use Rattle.protocol.specs.Sizes.{sized}
+use Rattle.protocol.specs.Worlds.{World, freshWorld, fresh}
+use Rattle.codec.specs.Layout.{imageSize}
 use Rattle.codec.specs.Lists.{put}
 use Rattle.codec.specs.Places.{clientAt}
-use Rattle.codec.specs.Images.{encode}
-use Rattle.image.specs.Fresh.{Outcome, freshOn}
-use Rattle.consistency.specs.Steps.{leftBy}
+use Rattle.codec.specs.Images.{encode, decode}
+use Rattle.image.specs.Fresh.{Outcome, outcome, freshOn}
+use Rattle.consistency.specs.Steps.{stepOn, leftBy}
 use Rattle.world.specs.declared.Stepped.{Stepped}
 use Rattle.world.specs.declared.Stepped.the-variants.{StepRefused, StepDone}
-use Rattle.world.specs.Images.{stepped, Does}
+use Rattle.preservation.specs.Begun.{fresh-kept}
+use Rattle.image.specs.Readable.{readable, world-readable}
+use Rattle.world.specs.Images.{stepped, Legible, Does}
+use Rattle.journal.specs.Replays.{spelled, advanced}
 use Rattle.lines.specs.Lines.{operationLine}
 use Rattle.archive_run.specs.declared.turns.Moved.{Moved}
 use Rattle.archive_run.specs.declared.turns.Moved.the-variants.{Stopped, Went}
@@ -92,3 +99,48 @@ turn-went (done a) r c k l l′ out out′ d e p q =
   where
     same-number : {x y : ℕ} → done x ≡ done y → x ≡ y
     same-number e = cc
+
+-- ---- a readable image stays one
+
+-- a step of the right length on it is its world's
+pub step-legible : (l b : List ℕ) → Legible l → length b ≡ stepWidth → stepOn l b ≡ step (decode l) (stepOf b)
+unfolding stepOn guard
+step-legible l b h e =
+    let r : readable l ≡ true = subst (λ (x : List ℕ). readable x ≡ true) (h .image) (world-readable (decode l) (h .formed)) in
+    rw (eq-eqb (length l) imageSize (h .size), eq-eqb (length b) stepWidth e, r) refl
+
+pub step-short : (l b : List ℕ) → Legible l → (length b ≡ stepWidth → ⊥) → stepOn l b ≡ refused 1
+unfolding stepOn guard
+step-short l b h e = rw (eq-eqb (length l) imageSize (h .size), ne-eqb (length b) stepWidth e) refl
+
+pub does-legible : (r : Stepped) (l l′ b : List ℕ) → Legible l → length b ≡ stepWidth → Does r l l′ (step (decode l) (stepOf b)) → Does r l l′ (stepOn l b)
+does-legible r l l′ b h e d = subst (Does r l l′) (sym (step-legible l b h e)) d
+
+-- the fresh world's
+refused-by-size : (members f n : ℕ) → fresh members f ≡ refused n → n ≡ 8
+unfolding fresh guard
+refused-by-size members f n e = go (sized (record { members = members; f = f })) e
+  where
+    go : (b : Bool) → guard b 8 (done (freshWorld (record { members = members; f = f }))) ≡ refused n → n ≡ 8
+    go true e = let z : _≡_ {A = ℕ} 0 1 = cc in absurd (omega arith)
+    go false e = cc
+
+fresh-legible : (i : List ℕ) (members f : ℕ) → freshOn i members f .refusal ≡ 0 → Legible (freshOn i members f .image)
+unfolding freshOn guard
+fresh-legible i members f e = go (eqb (length i) imageSize) (fresh members f) refl e
+  where
+    go : (b : Bool) (x : Result World) → fresh members f ≡ x → outcome i (guard b 1 x) .refusal ≡ 0 → Legible (outcome i (guard b 1 x) .image)
+    go true (done w) q e = spelled w (fresh-kept members f w q) (encode w) refl
+    go true (refused n) q e = absurd (omega (arith, refused-by-size members f n q))
+    go false x q e = absurd (omega arith)
+
+pub first-legible : (i b : List ℕ) → firstOn i b .refusal ≡ 0 → Legible (firstOn i b .image)
+unfolding firstOn
+first-legible i b e = go (eqb (length b) stepWidth) (firstFits (stepOf b)) (freshOn i (stepOf b .value) (stepOf b .f)) (fresh-legible i (stepOf b .value) (stepOf b .f)) e
+  where
+    go : (p q : Bool) (x : Outcome) → (x .refusal ≡ 0 → Legible (x .image))
+        → if p (if q x (record { refusal = 3; image = i })) (record { refusal = 1; image = i }) .refusal ≡ 0
+        → Legible (if p (if q x (record { refusal = 3; image = i })) (record { refusal = 1; image = i }) .image)
+    go true true x h e = h e
+    go true false x h e = absurd (omega arith)
+    go false q x h e = absurd (omega arith)

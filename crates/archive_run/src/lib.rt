@@ -1,9 +1,7 @@
 // The program: standard input to lines.
 pub mod turns;
 
-ghost use mathlib.Core.Path.{_≡_};
-ghost use lib.ListN.{length};
-ghost use Rattle.codec.specs.Layout.{imageSize};
+ghost use Rattle.world.specs.Images.{Legible};
 use codec::layout::IMAGE;
 use codec::layout::STEP;
 use libc::STDIN_FILENO;
@@ -39,7 +37,8 @@ fn finish(steps: u32, refusal: u8) {
 
 // Reads a record, takes its step and prints the line of the operation that it completed.
 fn next(image: &mut [u8]) -> Onward
-    requires { ⌜ length (now image) ≡ imageSize ⌝ }
+    requires { ⌜ Legible (now image) ⌝ }
+    ensures { λ _. ⌜ Legible (now (image .exit)) ⌝ }
 {
     let mut bytes = [0u8; STEP];
     let mut line = [0u8; LINE];
@@ -58,7 +57,7 @@ fn next(image: &mut [u8]) -> Onward
 }
 
 fn steps(image: &mut [u8])
-    requires { ⌜ length (now image) ≡ imageSize ⌝ }
+    requires { ⌜ Legible (now image) ⌝ }
 {
     for k in 0..TURNS {
         if let Onward::Stop(refusal) = next(image) {

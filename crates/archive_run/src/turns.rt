@@ -5,6 +5,7 @@ ghost use lib.ListN.{length};
 ghost use Rattle.codec.specs.Layout.{imageSize};
 ghost use Rattle.codec.specs.Lists.{put};
 ghost use Rattle.consistency.specs.Steps.{stepOn, leftBy};
+ghost use Rattle.world.specs.Images.{Legible};
 ghost use Rattle.archive_run.specs.Turns.{firstFits, firstOn, lineOn, turned, measured, lineAfter};
 use codec::layout::CLIENTS;
 use codec::layout::STEP;
@@ -14,7 +15,7 @@ use image::fresh::fresh;
 use lines::operation_line;
 use protocol::Step;
 use world::Stepped;
-use world::step::step;
+use world::step::advance;
 
 // A stop by its refusal, or the length of the line that a step leaves, 0 for none.
 pub enum Moved {
@@ -73,12 +74,16 @@ fn completed(image: &[u8], c: u8, out: &mut [u8]) -> usize
     operation_line(out, c, v)
 }
 
-// One step, and the line of the operation that it completed.
+// One step on a readable image, which stays readable, and the line of the operation that it completed.
 pub fn turn(image: &mut [u8], bytes: &[u8], out: &mut [u8]) -> Moved
-    requires { ⌜ (length (now image) ≡ imageSize) × (48 ≤ length (now out)) ⌝ }
+    requires { ⌜ Legible (now image) × (48 ≤ length (now out)) ⌝ }
     ensures { λ r. ⌜ (turned r ≡ measured (stepOn (now (image .entry)) (now (bytes .entry)))) × (now (image .exit) ≡ leftBy (now (image .entry)) (stepOn (now (image .entry)) (now (bytes .entry)))) × (now (out .exit) ≡ put (now (out .entry)) 0 (lineAfter (stepOn (now (image .entry)) (now (bytes .entry))))) ⌝ }
+    ensures { λ _. ⌜ Legible (now (image .exit)) ⌝ }
 {
-    let r = step(image, bytes);
+    if bytes.len() != STEP {
+        return Moved::Stopped(1);
+    }
+    let r = advance(image, bytes);
     match r {
         Stepped::StepRefused(n) => Moved::Stopped(n),
         Stepped::StepDone(c) => Moved::Went(completed(image, c, out)),

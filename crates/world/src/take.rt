@@ -46,23 +46,26 @@ use protocol::MessageNumber;
 use protocol::Taken;
 use protocol::ViewNumber;
 
-// "From a request the links are followed until zero": the tally of view t from message n on, with left links still allowed; a
-// is that of the answers before it.
+// The tally of view t from message n on, with left links still allowed; a is that of the answers before it. "From a request the
+// links are followed until zero"; a loop, so that a long chain takes no stack.
 fn tally(image: &[u8], t: ViewNumber, n: MessageNumber, left: u16, a: Tally) -> Tally
     requires { ⌜ Walk (now image) left (n .0) ⌝ }
     ensures { λ r. ⌜ r ≡ tallyFrom (decode (now (image .entry))) (t .0) a (follow (decode (now (image .entry))) left (n .0)) ⌝ }
 {
-    let k = n.0;
-    if k < 1 {
-        return a;
+    let mut k = n.0;
+    let mut links = left;
+    let mut gathered = a;
+    while 0 < k {
+        if links < 1 {
+            return gathered;
+        }
+        let m = load_message(image, MessageNumber(k));
+        let next = m.next;
+        gathered = add_answer(gathered, t, m);
+        k = next.0;
+        links -= 1;
     }
-    if left < 1 {
-        return a;
-    }
-    let m = load_message(image, n);
-    let next = m.next;
-    let b = add_answer(a, t, m);
-    tally(image, t, next, left - 1, b)
+    gathered
 }
 
 // "A phase closes when, by the answer just taken, the answers taken with that answer's view t come from at least q(t)
