@@ -3,7 +3,7 @@ use protocol::Entry;
 use protocol::Stamp;
 use protocol::StampCount;
 ghost use mathlib.Core.Path.{_≡_};
-ghost use Rattle.protocol.specs.Entries.{entry, larger, same, entryFits};
+ghost use Rattle.protocol.specs.Entries.{entry, below, larger, same, entryFits};
 
 // The entry of a count, a writer and a value.
 pub fn entry_of(count: u32, writer: u8, value: u32) -> Entry
@@ -19,7 +19,24 @@ pub fn entry_of(count: u32, writer: u8, value: u32) -> Entry
     }
 }
 
-// The larger stamp of two; a where the stamps are equal.
+// Whether the stamp of a is below that of b: by count, then writer.
+pub fn below(a: Entry, b: Entry) -> bool
+    ensures { λ r. ⌜ r ≡ below a b ⌝ }
+{
+    let x = a.stamp;
+    let y = b.stamp;
+    let m = x.count;
+    let n = y.count;
+    if m.0 < n.0 {
+        return true;
+    }
+    if n.0 < m.0 {
+        return false;
+    }
+    x.writer < y.writer
+}
+
+// The larger stamp of two; a where the stamps are equal. Made of its fields, as a copy would carry the bytes between them too.
 pub fn larger(a: Entry, b: Entry) -> Entry
     ensures { λ r. ⌜ r ≡ larger a b ⌝ }
 {
@@ -27,16 +44,11 @@ pub fn larger(a: Entry, b: Entry) -> Entry
     let y = b.stamp;
     let m = x.count;
     let n = y.count;
-    if m.0 < n.0 {
-        return b;
+    let later = below(a, b);
+    if later {
+        return entry_of(n.0, y.writer, b.value);
     }
-    if n.0 < m.0 {
-        return a;
-    }
-    if x.writer < y.writer {
-        return b;
-    }
-    a
+    entry_of(m.0, x.writer, a.value)
 }
 
 // Whether two entries agree in every field.

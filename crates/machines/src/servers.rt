@@ -11,7 +11,7 @@ ghost use mathlib.Core.Path.{_≡_};
 ghost use Prim.Native.Nat.{_≤_};
 ghost use Rattle.protocol.specs.Tools.{numberOf};
 ghost use Rattle.protocol.specs.Servers.{keeping, withoutKey, joining, gathering, start, served, mayAnswer};
-ghost use Rattle.machines.specs.Servers.{shownBy, answered, serveIn};
+ghost use Rattle.machines.specs.Servers.{shownBy, answered, serveIn, after};
 
 // What a server answers with: its view and entry.
 pub fn shown_by(a: Server) -> Shown
@@ -89,79 +89,113 @@ fn gathering(a: Server, m: Message) -> Server
     }
 }
 
-// START of a view up to 32.
-fn start(a: Server, m: Message, member: bool) -> Served
-    requires { ⌜ m .view .0 ≤ 32 ⌝ }
-    ensures { λ r. ⌜ served r ≡ start a m member ⌝ }
+// Whether START is refused, by number: 0, or 7.
+fn start_refuses(a: Server, m: Message, member: bool) -> u8
+    ensures { λ r. ⌜ r ≡ numberOf (start a m member) ⌝ }
 {
     let view = a.view;
     let asked = m.view;
     if !member {
-        return Served::ServeRefused(7);
+        return 7;
     }
     if asked.0 <= view.0 {
-        return Served::ServeRefused(7);
+        return 7;
     }
     if a.faulty {
         let held = sizes::holds(a.keys, asked.0);
         if held {
-            return Served::ServeRefused(7);
+            return 7;
         }
-        return Served::Kept(gathering(a, m));
     }
-    Served::Kept(joining(a, m))
+    0
 }
 
-// READ, WRITE, or any other kind as END, of a server that serves.
-fn answered(a: Server, m: Message) -> Served
-    ensures { λ r. ⌜ served r ≡ answered a m ⌝ }
+// Whether a correct server that serves refuses READ, WRITE, or any other kind as END: 0, or 7.
+fn request_refuses(a: Server, m: Message) -> u8
+    ensures { λ r. ⌜ r ≡ numberOf (answered a m) ⌝ }
 {
-    let kind = m.kind;
-    if kind == 1 {
-        return Served::Answered(a, shown_by(a));
-    }
-    if kind == 2 {
-        let sent = m.entry;
-        let kept = keeping(a, sent);
-        return Served::Answered(kept, shown_by(kept));
-    }
     let view = a.view;
     let asked = m.view;
-    if asked.0 != view.0 {
-        return Served::ServeRefused(7);
+    let kind = m.kind;
+    if kind == 1 {
+        return 0;
     }
-    let left = without_key(a);
-    Served::Answered(left, shown_by(a))
+    if kind == 2 {
+        return 0;
+    }
+    if asked.0 != view.0 {
+        return 7;
+    }
+    0
 }
 
-// A message reaches a server; member says whether it is in the server set of the message's view. 3, a view over 32; 5, an
-// answer or no message; 6, the server is faulty and the kind is 1 to 3; 7, the server's rule does not apply.
-pub fn serve(a: Server, m: Message, member: bool) -> Served
-    ensures { λ r. ⌜ served r ≡ serveIn a m member ⌝ }
+// Whether the server's rule refuses a message, by number; member says whether it is in the server set of the message's view. 0, or:
+// 3, a view over 32; 5, an answer or no message; 6, the server is faulty and the kind is 1 to 3; 7, the rule does not apply.
+pub fn refuses(a: Server, m: Message, member: bool) -> u8
+    ensures { λ r. ⌜ r ≡ numberOf (serveIn a m member) ⌝ }
 {
     let view = a.view;
     let asked = m.view;
     let kind = m.kind;
     if 32 < asked.0 {
-        return Served::ServeRefused(3);
+        return 3;
     }
     if kind < 1 {
-        return Served::ServeRefused(5);
+        return 5;
     }
     if 4 < kind {
-        return Served::ServeRefused(5);
+        return 5;
     }
     if kind == 4 {
-        return start(a, m, member);
+        return start_refuses(a, m, member);
     }
     if a.faulty {
-        return Served::ServeRefused(6);
+        return 6;
     }
     let held = sizes::holds(a.keys, view.0);
     if !held {
-        return Served::ServeRefused(7);
+        return 7;
     }
-    answered(a, m)
+    request_refuses(a, m)
+}
+
+// The server's record after a message that its rule does not refuse; a view over 32 changes nothing.
+pub fn after(a: Server, m: Message) -> Server
+    ensures { λ r. ⌜ r ≡ after a m ⌝ }
+{
+    let asked = m.view;
+    let kind = m.kind;
+    if 32 < asked.0 {
+        return a;
+    }
+    if kind == 1 {
+        return a;
+    }
+    if kind == 2 {
+        return keeping(a, m.entry);
+    }
+    if kind == 3 {
+        return without_key(a);
+    }
+    if a.faulty {
+        return gathering(a, m);
+    }
+    joining(a, m)
+}
+
+// A message reaches a server: its record after it, and what it answers. START has no answer.
+pub fn serve(a: Server, m: Message, member: bool) -> Served
+    ensures { λ r. ⌜ served r ≡ serveIn a m member ⌝ }
+{
+    let refusal = refuses(a, m, member);
+    if refusal != 0 {
+        return Served::ServeRefused(refusal);
+    }
+    let b = after(a, m);
+    if m.kind == 4 {
+        return Served::Kept(b);
+    }
+    Served::Answered(b, shown_by(b))
 }
 
 // Whether a faulty server may answer a request with view t: 0, or the refusal. 5, no request, or source, which says whether the

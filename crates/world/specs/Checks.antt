@@ -1,15 +1,30 @@
 -- Check 3 by its parts. Assumes nothing.
-use Prim.Native.Nat.{ℕ, _≤_, _<_}
+use Prim.Native.Nat.{ℕ, _/_, _%_, _≤_, _<_}
 use native.Mathlib.Omega.{arith}
 use mathlib.Core.Bool.{Bool, true, false, _&&_, _||_}
 use mathlib.Core.Path.{_≡_, refl, sym, ap, _∙_}
+use lib.ListN.{getD}
 use lib.Dec.{leb, eqb}
 use borrow.Author.Tests.{le-leb, lt-leb, eqb-true}
 use Rattle.protocol.specs.declared.Step.{Step}
 use Rattle.protocol.specs.Tools.{if, within}
 use Rattle.protocol.specs.Sizes.{clients, servers, views, messages, lastCount}
-use Rattle.protocol.specs.Steps.{CLIENT, SERVER, VIEW, F, MESSAGE, SOURCE, VALUE, uses, field, fieldsFit}
+use Rattle.protocol.specs.Steps.{CLIENT, SERVER, VIEW, F, MESSAGE, SOURCE, VALUE, fieldTable, uses, field, fieldsFit}
 use Rattle.protocol.specs.Laws.Tests.{and-left, and-right, within-true}
+
+-- whether a kind uses a field, by its row of the table
+abbrev pub inRow : ℕ → ℕ → Bool
+inRow row flag = eqb (row / flag % 2) 1
+
+-- who is a client, a server or unused
+abbrev pub whoFits : ℕ → ℕ → Bool
+whoFits row who = field (inRow row CLIENT || inRow row SERVER) 1 (if (inRow row CLIENT) clients servers) who
+
+pub who-one : (row who : ℕ) → inRow row CLIENT ≡ true → field true 1 clients who ≡ whoFits row who
+who-one row who e = rw e refl
+
+pub who-two : (row who : ℕ) (b : Bool) → inRow row CLIENT ≡ false → b ≡ inRow row SERVER → field b 1 servers who ≡ whoFits row who
+who-two row who b e p = rw (e, p) refl
 
 -- a kind below 1 or above 7
 pub unknown-low : (st : Step) → st .kind < 1 → false ≡ fieldsFit st
@@ -20,14 +35,13 @@ pub unknown-high : (st : Step) → 1 ≤ st .kind → 7 < st .kind → false ≡
 unfolding fieldsFit
 unknown-high st l h = rw (le-leb 1 (st .kind) l, lt-leb (st .kind) 7 h) refl
 
--- the fields of a known kind
-pub known : (st : Step) (a b c d e g : Bool) → 1 ≤ st .kind → st .kind ≤ 7
-    → a ≡ field (uses (st .kind) CLIENT || uses (st .kind) SERVER) 1 (if (uses (st .kind) CLIENT) clients servers) (st .who)
-    → b ≡ field (uses (st .kind) VIEW) 1 views (st .view .0) → c ≡ field (uses (st .kind) F) 0 255 (st .f) → d ≡ field (uses (st .kind) MESSAGE) 1 messages (st .message .0)
-    → e ≡ field (uses (st .kind) SOURCE) 0 messages (st .source .0) → g ≡ field (uses (st .kind) VALUE) 0 lastCount (st .value)
-    → (a && (b && (c && (d && (e && g))))) ≡ fieldsFit st
-unfolding fieldsFit
-known st a b c d e g l h p q r s t u = rw (le-leb 1 (st .kind) l, le-leb (st .kind) 7 h, p, q, r, s, t, u) refl
+-- the fields of a known kind, by its row
+pub known : (st : Step) (row : ℕ) (a b c d e g : Bool) → 1 ≤ st .kind → st .kind ≤ 7 → row ≡ getD fieldTable (st .kind) 0
+    → a ≡ whoFits row (st .who) → b ≡ field (inRow row VIEW) 1 views (st .view .0) → c ≡ field (inRow row F) 0 255 (st .f)
+    → d ≡ field (inRow row MESSAGE) 1 messages (st .message .0) → e ≡ field (inRow row SOURCE) 0 messages (st .source .0)
+    → g ≡ field (inRow row VALUE) 0 lastCount (st .value) → (a && (b && (c && (d && (e && g))))) ≡ fieldsFit st
+unfolding fieldsFit uses
+known st row a b c d e g l h i p q r s t u = rw (p, q, r, s, t, u, i, le-leb 1 (st .kind) l, le-leb (st .kind) 7 h) refl
 
 -- the source of a step that passes
 pub source-low : (st : Step) → fieldsFit st ≡ true → st .source .0 ≤ messages
@@ -43,10 +57,3 @@ source-low st e =
     go : (b : Bool) → field b 0 messages (st .source .0) ≡ true → st .source .0 ≤ messages
     go true e = within-true 0 messages (st .source .0) e .1
     go false e = omega (arith, eqb-true (st .source .0) 0 e)
-
--- who is a client; who is a server or unused
-pub who-one : (k who : ℕ) → uses k CLIENT ≡ true → field true 1 clients who ≡ field (uses k CLIENT || uses k SERVER) 1 (if (uses k CLIENT) clients servers) who
-who-one k who e = rw e refl
-
-pub who-two : (k who : ℕ) (b : Bool) → uses k CLIENT ≡ false → b ≡ uses k SERVER → field b 1 servers who ≡ field (uses k CLIENT || uses k SERVER) 1 (if (uses k CLIENT) clients servers) who
-who-two k who b e p = rw (e, p) refl

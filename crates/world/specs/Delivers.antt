@@ -12,12 +12,10 @@ use Rattle.protocol.specs.declared.Server.{Server}
 use Rattle.protocol.specs.declared.Message.{Message}
 use Rattle.protocol.specs.declared.Shown.{Shown}
 use Rattle.protocol.specs.declared.View.{View}
-use Rattle.protocol.specs.declared.Served.{Served}
-use Rattle.protocol.specs.declared.Served.the-variants.{ServeRefused, Kept, Answered}
 use Rattle.protocol.specs.Tools.{if, within, holds, nth, Result, refused, done, guard, then, numberOf}
 use Rattle.protocol.specs.Sizes.{servers, views, messages}
 use Rattle.protocol.specs.Entries.{empty}
-use Rattle.protocol.specs.Servers.{WRITE, isRequest, Reply, serve, served, mayAnswer}
+use Rattle.protocol.specs.Servers.{WRITE, START, isRequest, serve, mayAnswer}
 use Rattle.protocol.specs.Worlds.{World, view, server, message, newest, member, present, room, withServer, send}
 use Rattle.protocol.specs.Steps.{After, moved, answer, answers, deliver, fault, source?, lie}
 use Rattle.protocol.specs.Readable.{viewTagFits}
@@ -25,7 +23,7 @@ use Rattle.protocol.specs.Laws.Tests.{within-true}
 use Rattle.protocol.specs.Laws.Bits.{holds-none}
 use Rattle.codec.specs.Places.{usedAt, viewAt, serverAt, messageAt, putServer}
 use Rattle.codec.specs.Images.{encode, decode}
-use Rattle.machines.specs.Servers.{serveIn, serve-in}
+use Rattle.machines.specs.Servers.{shownBy, serveIn, serve-in, after, replying, refused-by, serve-done}
 use Rattle.preservation.specs.Formed.{Formed}
 use Rattle.preservation.specs.Updates.{present-is, mail-sent}
 use Rattle.preservation.specs.Kept.{Mailed, mailed}
@@ -130,27 +128,31 @@ module _ {l : List ℕ} (h : Legible l) where
   unfolding deliver guard
   absent s n e = refuses _ 5 l _ refl (rw e refl)
 
-  module _ (s n : ℕ) (a : 1 ≤ s) (b : s ≤ servers) (e : present w n ≡ true) (m : Message) (x : Server) (t : Bool) (r : Served)
-      (p : m ≡ messageAt l n) (q : x ≡ serverAt l s) (z : t ≡ member w (m .view .0) s) (f : served r ≡ serveIn x m t) where
+  module _ (s n : ℕ) (a : 1 ≤ s) (b : s ≤ servers) (e : present w n ≡ true) (m : Message) (x : Server) (t : Bool) (k : ℕ)
+      (p : m ≡ messageAt l n) (q : x ≡ serverAt l s) (z : t ≡ member w (m .view .0) s) (f : k ≡ numberOf (serveIn x m t)) where
     is-message : m ≡ message w n
     is-message = p ∙ message-is h n (sent-low n e)
 
-    rule : serve (server w s) (message w n) (member w (message w n .view .0) s) ≡ served r
+    rule : serve (server w s) (message w n) (member w (message w n .view .0) s) ≡ serveIn x m t
     rule =
-        sym (f ∙ serve-in x m t (rw is-message (view-low n e))
+        sym (serve-in x m t (rw is-message (view-low n e))
         ∙ ap (λ (b : Bool). serve x m b) z ∙ ap₂ (λ (y : Server) (k : Message). serve y k (member w (k .view .0) s)) (q ∙ server-is h s a b) is-message)
 
-    pub deliver-no : (c : ℕ) → r ≡ ServeRefused c → Does (StepRefused c) l l (deliver w s n)
+    pub deliver-no : (k ≡ 0 → ⊥) → Does (StepRefused k) l l (deliver w s n)
     unfolding deliver guard
-    deliver-no c d = refuses _ c l _ refl (rw (e, rule, d) refl)
+    deliver-no d = refuses _ k l _ refl (rw (e, rule, refused-by (serveIn x m t) k (sym f) d) refl)
 
-    pub deliver-kept : (y : Server) (l′ : List ℕ) → r ≡ Kept y → l′ ≡ putServer l s y → Does (StepDone 0) l l′ (deliver w s n)
-    unfolding deliver guard
-    deliver-kept y l′ d g = does 0 (withServer w s y) l l′ _ (rw (e, rule, d) refl) (g ∙ with-server (image-of h) s a b y .is)
+    module _ (d : k ≡ 0) (y : Server) (g : y ≡ after x m) where
+      rule-done : serve (server w s) (message w n) (member w (message w n .view .0) s) ≡ done (replying x m)
+      rule-done = rule ∙ serve-done x m t (sym f ∙ d)
 
-    pub deliver-answers : (y : Server) (k : Shown) → r ≡ Answered y k → deliver w s n ≡ answers (some k) w s n y
-    unfolding deliver guard
-    deliver-answers y k d = rw (e, rule, d) refl
+      pub deliver-kept : (l′ : List ℕ) → m .kind ≡ START → l′ ≡ putServer l s y → Does (StepDone 0) l l′ (deliver w s n)
+      unfolding deliver guard
+      deliver-kept l′ i j = does 0 (withServer w s y) l l′ _ (rw (e, rule-done, eq-eqb _ _ i, g) refl) (j ∙ with-server (image-of h) s a b y .is)
+
+      pub deliver-answers : (v : Shown) → (m .kind ≡ START → ⊥) → v ≡ shownBy y → deliver w s n ≡ answers (some v) w s n y
+      unfolding deliver guard
+      deliver-answers v i j = rw (e, rule-done, ne-eqb _ _ i, j, g) refl
 
   -- ---- a false answer
 

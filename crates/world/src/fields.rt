@@ -1,10 +1,9 @@
 // "Which fields each kind uses is one table", and check 3, which reads it.
 ghost use mathlib.Core.Path.{_≡_};
-ghost use mathlib.Core.Bool.{_&&_, _||_};
-ghost use Prim.Native.Nat.{_≤_, _<_};
-ghost use Rattle.protocol.specs.Tools.{if};
-ghost use Rattle.protocol.specs.Sizes.{clients, servers};
-ghost use Rattle.protocol.specs.Steps.{CLIENT, SERVER, uses as usesField, field as fieldOf, fieldsFit};
+ghost use mathlib.Core.Bool.{_&&_};
+ghost use Prim.Native.Nat.{_<_};
+ghost use Rattle.protocol.specs.Steps.{field as fieldOf, fieldsFit};
+ghost use Rattle.world.specs.Checks.{inRow, whoFits};
 use codec::layout::CLIENTS;
 use codec::layout::MESSAGES;
 use codec::layout::SERVERS;
@@ -51,13 +50,11 @@ const LAST_BYTE: u32 = 255;
 
 const LAST_WORD: u32 = 4294967295;
 
-// Whether a kind uses a field.
-fn uses(kind: u8, flag: u8) -> bool
-    requires { ⌜ (kind < 8) × (0 < flag) ⌝ }
-    ensures { λ r. ⌜ r ≡ usesField kind flag ⌝ }
+// Whether a kind uses a field, by its row.
+fn uses(row: u8, flag: u8) -> bool
+    requires { ⌜ 0 < flag ⌝ }
+    ensures { λ r. ⌜ r ≡ inRow row flag ⌝ }
 {
-    let at = kind as usize;
-    let row = FIELDS[at];
     row / flag % 2 == 1
 }
 
@@ -75,15 +72,14 @@ fn field(used: bool, low: u32, high: u32, x: u32) -> bool
 }
 
 // who is a client, a server or unused.
-fn who_fits(kind: u8, who: u8) -> bool
-    requires { ⌜ kind < 8 ⌝ }
-    ensures { λ r. ⌜ r ≡ fieldOf (usesField kind CLIENT || usesField kind SERVER) 1 (if (usesField kind CLIENT) clients servers) who ⌝ }
+fn who_fits(row: u8, who: u8) -> bool
+    ensures { λ r. ⌜ r ≡ whoFits row who ⌝ }
 {
-    let client = uses(kind, CLIENT);
+    let client = uses(row, CLIENT);
     if client {
         return field(true, 1, LAST_CLIENT, who as u32);
     }
-    let server = uses(kind, SERVER);
+    let server = uses(row, SERVER);
     field(server, 1, LAST_SERVER, who as u32)
 }
 
@@ -110,12 +106,13 @@ pub fn fields_fit(st: Step) -> bool
     if 7 < kind {
         return false;
     }
-    let who = who_fits(kind, st.who);
-    let view_fits = field(uses(kind, VIEW), 1, LAST_VIEW, t as u32);
-    let f_fits = field(uses(kind, F), 0, LAST_BYTE, st.f as u32);
-    let message_fits = field(uses(kind, MESSAGE), 1, LAST_MESSAGE, n as u32);
-    let source_fits = field(uses(kind, SOURCE), 0, LAST_MESSAGE, k as u32);
-    let value_fits = field(uses(kind, VALUE), 0, LAST_WORD, st.value);
+    let row = FIELDS[kind as usize];
+    let who = who_fits(row, st.who);
+    let view_fits = field(uses(row, VIEW), 1, LAST_VIEW, t as u32);
+    let f_fits = field(uses(row, F), 0, LAST_BYTE, st.f as u32);
+    let message_fits = field(uses(row, MESSAGE), 1, LAST_MESSAGE, n as u32);
+    let source_fits = field(uses(row, SOURCE), 0, LAST_MESSAGE, k as u32);
+    let value_fits = field(uses(row, VALUE), 0, LAST_WORD, st.value);
     let numbers = both(message_fits, both(source_fits, value_fits));
     both(who, both(view_fits, both(f_fits, numbers)))
 }

@@ -15,6 +15,7 @@ use super::mail::answer;
 use super::mail::present;
 use super::mail::send;
 use codec::layout::MESSAGES;
+use codec::layout::START;
 use codec::layout::WRITE;
 use codec::places::load_message;
 use codec::places::load_server;
@@ -22,12 +23,13 @@ use codec::places::load_used;
 use codec::places::load_view;
 use codec::places::store_server;
 use machines::entries::entry_of;
+use machines::servers::after;
 use machines::servers::may_answer;
-use machines::servers::serve;
+use machines::servers::refuses;
+use machines::servers::shown_by;
 use machines::sizes::holds;
 use protocol::Entry;
 use protocol::MessageNumber;
-use protocol::Served;
 use protocol::Server;
 use protocol::ServerNumber;
 use protocol::Shown;
@@ -75,15 +77,17 @@ pub fn deliver(image: &mut [u8], s: ServerNumber, n: MessageNumber) -> Stepped
     let a = load_server(image, s);
     let t = m.view;
     let member = is_member(image, t, s);
-    let served = serve(a, m, member);
-    match served {
-        Served::ServeRefused(x) => Stepped::StepRefused(x),
-        Served::Kept(b) => {
-            store_server(image, s, b);
-            Stepped::StepDone(0)
-        }
-        Served::Answered(b, x) => reply(image, s, n, b, x),
+    let refusal = refuses(a, m, member);
+    if refusal != 0 {
+        return Stepped::StepRefused(refusal);
     }
+    let b = after(a, m);
+    if m.kind == START {
+        store_server(image, s, b);
+        return Stepped::StepDone(0);
+    }
+    let shown = shown_by(b);
+    reply(image, s, n, b, shown)
 }
 
 // "Fault: 6, faulty already."

@@ -1,7 +1,4 @@
-use mathlib.Core.Path.{_≡_, sym, ap, ap₂, _∙_}
-use mathlib.Core.List.{List}
-use Prim.Native.Nat.{ℕ, _+_}
-use native.Mathlib.Omega.{arith}
+use mathlib.Core.Path.{sym, _∙_}
 use borrow.Author.Tests.{not-true, not-false}
 use Rattle.world.specs.Stored.{by}
 use Rattle.world.specs.Delivers.{sent-low, tag-low, absent, deliver-no, deliver-kept, deliver-answers}
@@ -27,61 +24,38 @@ load-server-requires c κs = search needs
 is-member-requires : tie.Need-is-member-requires
 is-member-requires c κs = let d = c .before .before .before .before .before .before .before .before .before .before in (d .pre .0, tag-low (d .pre .0) (d .args .n .0) (c .before .before .before .before .load-message .result) (c .before .before .before .before .load-message .ensures) (sym (c .before .before .before .before .before .before .before .present .ensures) ∙ not-false (c .before .before .before .before .before .before .before .present .result) (c .before .before .before .before .before .before .if1 .left)))
 
-serve-requires : tie.Need-serve-requires
-serve-requires c κs = search needs
-
-enum-known-served : tie.Need-enum-known-served
-enum-known-served c = search needs
-
-enum-known-served-2 : tie.Need-enum-known-served-2
-enum-known-served-2 c = search needs
-
-store-server-requires : tie.Need-store-server-requires
-store-server-requires c κs = let d = c .before .before .before .before .before .before .before .before .before .before .before .before .before .before .before .before in (d .pre .0 .size, d .pre .1, d .pre .2)
-
-enum-known-served-3 : tie.Need-enum-known-served-3
-enum-known-served-3 c = search needs
-
-reply-requires : tie.Need-reply-requires
-reply-requires c κs = let d = c .before .before .before .before .before .before .before .before .before .before .before .before .before .before .before .before in (d .pre .0, d .pre .1, d .pre .2)
+refuses-requires : tie.Need-refuses-requires
+refuses-requires c κs = search needs
 
 same-length-2 : tie.Need-same-length-2
 same-length-2 c = search needs
 
 returns-2 : tie.Need-returns-2
-returns-2 c = let d = c .before .before .before .before .before .before .before .before .before .before .before .before .before .before .before in deliver-no (d .pre .0) (d .args .s .0) (d .args .n .0) (d .pre .1) (d .pre .2) (sym (c .before .before .before .before .before .before .before .before .before .before .before .before .present .ensures) ∙ not-false (c .before .before .before .before .before .before .before .before .before .before .before .before .present .result) (c .before .before .before .before .before .before .before .before .before .before .before .if1 .left)) (c .before .before .before .before .before .before .before .before .before .load-message .result) (c .before .before .before .before .before .before .before .load-server .result) (c .before .before .before .before .is-member .result) (c .before .before .before .serve .result) (c .before .before .before .before .before .before .before .before .before .load-message .ensures) (c .before .before .before .before .before .before .before .load-server .ensures) (c .before .before .before .before .is-member .ensures) (c .before .before .before .serve .ensures) _ (c .before .served .given .1)
+returns-2 c = let e = c .before in let d = e .before .before .before .before .before .before .before .before .before .before .before .before in deliver-no (d .pre .0) (d .args .s .0) (d .args .n .0) (d .pre .1) (d .pre .2) (sym (e .before .before .before .before .before .before .before .before .before .present .ensures) ∙ not-false (e .before .before .before .before .before .before .before .before .before .present .result) (e .before .before .before .before .before .before .before .before .if1 .left)) (e .before .before .before .before .before .before .load-message .result) (e .before .before .before .before .load-server .result) (e .before .is-member .result) (e .refuses .result) (e .before .before .before .before .before .before .load-message .ensures) (e .before .before .before .before .load-server .ensures) (e .before .is-member .ensures) (e .refuses .ensures) (c .if2 .taken)
+
+after-requires : tie.Need-after-requires
+after-requires c κs = search needs
+
+store-server-requires : tie.Need-store-server-requires
+store-server-requires c κs = let d = c .before .before .before .before .before .before .before .before .before .before .before .before .before .before .before .before .before in (d .pre .0 .size, d .pre .1, d .pre .2)
 
 same-length-3 : tie.Need-same-length-3
 same-length-3 c = search needs
 
 returns-3 : tie.Need-returns-3
-returns-3 c = let d = c .before .before .before .before .before .before .before .before .before .before .before .before .before .before .before .before .before .before .before in deliver-kept (d .pre .0) (d .args .s .0) (d .args .n .0) (d .pre .1) (d .pre .2) (sym (c .before .before .before .before .before .before .before .before .before .before .before .before .before .before .before .before .present .ensures) ∙ not-false (c .before .before .before .before .before .before .before .before .before .before .before .before .before .before .before .before .present .result) (c .before .before .before .before .before .before .before .before .before .before .before .before .before .before .before .if1 .left)) (c .before .before .before .before .before .before .before .before .before .before .before .before .before .load-message .result) (c .before .before .before .before .before .before .before .before .before .before .before .load-server .result) (c .before .before .before .before .before .before .before .before .is-member .result) (c .before .before .before .before .before .before .before .serve .result) (c .before .before .before .before .before .before .before .before .before .before .before .before .before .load-message .ensures) (c .before .before .before .before .before .before .before .before .before .before .before .load-server .ensures) (c .before .before .before .before .before .before .before .before .is-member .ensures) (c .before .before .before .before .before .before .before .serve .ensures) _ _ (c .before .before .before .before .before .served2 .given .1) (c .before .before .store-server .ensures)
+returns-3 c = let e = c .before .before .before .before .before .before .before .before in let d = e .before .before .before .before .before .before .before .before .before .before .before .before in deliver-kept (d .pre .0) (d .args .s .0) (d .args .n .0) (d .pre .1) (d .pre .2) (sym (e .before .before .before .before .before .before .before .before .before .present .ensures) ∙ not-false (e .before .before .before .before .before .before .before .before .before .present .result) (e .before .before .before .before .before .before .before .before .if1 .left)) (e .before .before .before .before .before .before .load-message .result) (e .before .before .before .before .load-server .result) (e .before .is-member .result) (e .refuses .result) (e .before .before .before .before .before .before .load-message .ensures) (e .before .before .before .before .load-server .ensures) (e .before .is-member .ensures) (e .refuses .ensures) (c .before .before .before .before .before .before .before .if2 .left) (c .before .before .before .before .before .before .after .result) (c .before .before .before .before .before .before .after .ensures) _ (c .before .before .before .before .if3 .taken) (c .before .before .store-server .ensures)
+
+shown-by-requires : tie.Need-shown-by-requires
+shown-by-requires c κs = search needs
+
+reply-requires : tie.Need-reply-requires
+reply-requires c κs = let d = c .before .before .before .before .before .before .before .before .before .before .before .before .before .before .before .before .before .before in (d .pre .0, d .pre .1, d .pre .2)
 
 same-length-4 : tie.Need-same-length-4
 same-length-4 c = search needs
 
 returns-4 : tie.Need-returns-4
-returns-4 c = let d = c .before .before .before .before .before .before .before .before .before .before .before .before .before .before .before .before .before .before .before in by (deliver-answers (d .pre .0) (d .args .s .0) (d .args .n .0) (d .pre .1) (d .pre .2) (sym (c .before .before .before .before .before .before .before .before .before .before .before .before .before .before .before .before .present .ensures) ∙ not-false (c .before .before .before .before .before .before .before .before .before .before .before .before .before .before .before .before .present .result) (c .before .before .before .before .before .before .before .before .before .before .before .before .before .before .before .if1 .left)) (c .before .before .before .before .before .before .before .before .before .before .before .before .before .load-message .result) (c .before .before .before .before .before .before .before .before .before .before .before .load-server .result) (c .before .before .before .before .before .before .before .before .is-member .result) (c .before .before .before .before .before .before .before .serve .result) (c .before .before .before .before .before .before .before .before .before .before .before .before .before .load-message .ensures) (c .before .before .before .before .before .before .before .before .before .before .before .load-server .ensures) (c .before .before .before .before .before .before .before .before .is-member .ensures) (c .before .before .before .before .before .before .before .serve .ensures) _ _ (c .before .before .before .before .before .served3 .given .1)) (c .before .before .reply .ensures)
+returns-4 c = let e = c .before .before .before .before .before .before .before .before .before in let d = e .before .before .before .before .before .before .before .before .before .before .before .before in by (deliver-answers (d .pre .0) (d .args .s .0) (d .args .n .0) (d .pre .1) (d .pre .2) (sym (e .before .before .before .before .before .before .before .before .before .present .ensures) ∙ not-false (e .before .before .before .before .before .before .before .before .before .present .result) (e .before .before .before .before .before .before .before .before .if1 .left)) (e .before .before .before .before .before .before .load-message .result) (e .before .before .before .before .load-server .result) (e .before .is-member .result) (e .refuses .result) (e .before .before .before .before .before .before .load-message .ensures) (e .before .before .before .before .load-server .ensures) (e .before .is-member .ensures) (e .refuses .ensures) (c .before .before .before .before .before .before .before .before .if2 .left) (c .before .before .before .before .before .before .before .after .result) (c .before .before .before .before .before .before .before .after .ensures) _ (c .before .before .before .before .before .if3 .left) (c .before .before .before .before .shown-by .ensures)) (c .before .before .reply .ensures)
 
 pub deliver-spec : {M : Type 1} → statement M
-deliver-spec =
-    tie.close
-    (tie.spec
-    present-requires
-    same-length
-    returns
-    load-message-requires
-    load-server-requires
-    is-member-requires
-    serve-requires
-    enum-known-served
-    enum-known-served-2
-    store-server-requires
-    enum-known-served-3
-    reply-requires
-    same-length-2
-    returns-2
-    same-length-3
-    returns-3
-    same-length-4
-    returns-4)
+deliver-spec = tie.close (tie.spec present-requires same-length returns load-message-requires load-server-requires is-member-requires refuses-requires same-length-2 returns-2 after-requires store-server-requires same-length-3 returns-3 shown-by-requires reply-requires same-length-4 returns-4)
