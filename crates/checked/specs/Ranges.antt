@@ -17,9 +17,6 @@ use Rattle.protocol.specs.Readable.{senderFits}
 unfoldable pub numberFits : ℕ → Bool
 numberFits n = within 1 messages n
 
-abbrev pub emptyEntry : Entry → Bool
-emptyEntry e = same e empty
-
 -- "views 1 to 32", "0 none yet"; "a correct server has no key but its own view's"; "writers are at most 16"
 unfoldable pub serverInRange : Server → Bool
 serverInRange a =
@@ -44,7 +41,7 @@ nextTag kind taken n = leb n messages && ((isRequest kind || taken) || eqb n 0)
 
 -- "entry (zero for 1 and 3)"
 unfoldable pub entryTag : ℕ → Entry → Bool
-entryTag kind e = not (eqb kind READ || eqb kind END) || emptyEntry e
+entryTag kind e = not (eqb kind READ || eqb kind END) || same e empty
 
 -- "kind u8 (1 to 4, or 5 answer)"
 unfoldable pub messageInRange : Message → Bool
@@ -57,7 +54,7 @@ messageInRange m =
 
 -- "Kind 0 goes only with phase 0 and the empty entry."
 unfoldable pub idleFits : Client → Bool
-idleFits c = leb (c .kind) READS && (not (eqb (c .kind) NONE) || emptyEntry (c .entry))
+idleFits c = leb (c .kind) READS && (not (eqb (c .kind) NONE) || same (c .entry) empty)
 
 unfoldable pub openKind : ℕ → Bool
 openKind kind = within WRITES READS kind

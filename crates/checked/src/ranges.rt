@@ -10,7 +10,7 @@ use protocol::Server;
 use values::entries;
 use values::sizes;
 ghost use mathlib.Core.Path.{_≡_};
-ghost use Rattle.checked.specs.Ranges.{numberFits, serverInRange, senderTag, viewTag, requestTag, nextTag, entryTag, messageInRange, emptyEntry, openKind, idleFits, readingFits, writingFits, clientInRange, endFits, endingInRange, administratorInRange};
+ghost use Rattle.checked.specs.Ranges.{numberFits, serverInRange, senderTag, viewTag, requestTag, nextTag, entryTag, messageInRange, openKind, idleFits, readingFits, writingFits, clientInRange, endFits, endingInRange, administratorInRange};
 
 // The number of a message: 1 to 1,023.
 pub fn number_fits(n: MessageNumber) -> bool
@@ -20,14 +20,6 @@ pub fn number_fits(n: MessageNumber) -> bool
         return false;
     }
     n.0 <= 1023
-}
-
-// The empty entry.
-pub fn empty_entry(e: Entry) -> bool
-    ensures { λ r. ⌜ r ≡ emptyEntry e ⌝ }
-{
-    let zero = entries::entry_of(0, 0, 0);
-    entries::same(e, zero)
 }
 
 // A server: its view is at most 32, a correct one has no key but its own view's, and its entry fits.
@@ -121,7 +113,7 @@ fn next_tag(kind: u8, taken: bool, n: MessageNumber) -> bool
 fn entry_tag(kind: u8, e: Entry) -> bool
     ensures { λ r. ⌜ r ≡ entryTag kind e ⌝ }
 {
-    let zero = empty_entry(e);
+    let zero = entries::is_empty(e);
     if kind == 1 {
         return zero;
     }
@@ -180,7 +172,7 @@ fn idle_fits(c: Client) -> bool
     if c.kind != 0 {
         return true;
     }
-    empty_entry(entry)
+    entries::is_empty(entry)
 }
 
 // The kind of an open phase: 1 write or 2 read.

@@ -3,7 +3,7 @@ use protocol::Entry;
 use protocol::Stamp;
 use protocol::StampCount;
 ghost use mathlib.Core.Path.{_≡_};
-ghost use Rattle.protocol.specs.Entries.{entry, larger, same, entryFits};
+ghost use Rattle.protocol.specs.Entries.{entry, empty, larger, same, entryFits};
 
 // The entry of a count, a writer and a value.
 pub fn entry_of(count: u32, writer: u8, value: u32) -> Entry
@@ -54,6 +54,21 @@ pub fn same(a: Entry, b: Entry) -> bool
         return false;
     }
     a.value == b.value
+}
+
+// Whether an entry is the empty one.
+pub fn is_empty(e: Entry) -> bool
+    ensures { λ r. ⌜ r ≡ same e empty ⌝ }
+{
+    let stamp = e.stamp;
+    let count = stamp.count;
+    if count.0 != 0 {
+        return false;
+    }
+    if stamp.writer != 0 {
+        return false;
+    }
+    e.value == 0
 }
 
 // The ranges of an entry's fields: a writer is at most 16.

@@ -4,15 +4,15 @@ use Rattle.checked.specs.Ranges.{entryTag}
 use Rattle.checked.proofs.ranges.entry_tag.Statement.{statement}
 use Rattle.checked.proofs.ranges.entry_tag.Tie as tie
 
-empty-entry-requires : tie.Need-empty-entry-requires
-empty-entry-requires c κs = search needs
+is-empty-requires : tie.Need-is-empty-requires
+is-empty-requires c κs = search needs
 
 returns : tie.Need-returns
 unfolding entryTag
 returns c =
     simp (
       eq-eqb _ _ (c .if1 .taken),
-      c .before .empty-entry .ensures,
+      c .before .is-empty .ensures,
     )
 
 returns-2 : tie.Need-returns-2
@@ -21,7 +21,7 @@ returns-2 c =
     simp (
       eq-eqb _ _ (c .if2 .taken),
       ne-eqb _ _ (c .before .if1 .left),
-      c .before .before .empty-entry .ensures,
+      c .before .before .is-empty .ensures,
     )
 
 returns-3 : tie.Need-returns-3
@@ -33,4 +33,4 @@ returns-3 c =
     )
 
 pub entry-tag-spec : {M : Type 1} → statement M
-entry-tag-spec = tie.close (tie.spec empty-entry-requires returns returns-2 returns-3)
+entry-tag-spec = tie.close (tie.spec is-empty-requires returns returns-2 returns-3)

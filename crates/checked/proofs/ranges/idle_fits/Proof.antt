@@ -16,17 +16,17 @@ returns-2 c =
       le-leb _ _ (c .before .before .if1 .left),
     )
 
-empty-entry-requires : tie.Need-empty-entry-requires
-empty-entry-requires c κs = search needs
+is-empty-requires : tie.Need-is-empty-requires
+is-empty-requires c κs = search needs
 
 returns-3 : tie.Need-returns-3
 unfolding idleFits
 returns-3 c =
     simp (
-      c .empty-entry .ensures,
+      c .is-empty .ensures,
       eq-eqb _ _ (c .before .if2 .left),
       le-leb _ _ (c .before .before .before .if1 .left),
     )
 
 pub idle-fits-spec : {M : Type 1} → statement M
-idle-fits-spec = tie.close (tie.spec returns returns-2 empty-entry-requires returns-3)
+idle-fits-spec = tie.close (tie.spec returns returns-2 is-empty-requires returns-3)

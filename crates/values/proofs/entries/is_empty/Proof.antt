@@ -1,7 +1,7 @@
 use borrow.Author.Tests.{eq-eqb, ne-eqb}
 use Rattle.protocol.specs.Entries.{same}
-use Rattle.image.proofs.records.is_empty.Statement.{statement}
-use Rattle.image.proofs.records.is_empty.Tie as tie
+use Rattle.values.proofs.entries.is_empty.Statement.{statement}
+use Rattle.values.proofs.entries.is_empty.Tie as tie
 
 returns : tie.Need-returns
 unfolding same
