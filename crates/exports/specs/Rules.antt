@@ -13,7 +13,7 @@ use Rattle.protocol.specs.declared.Message.{Message}
 use Rattle.protocol.specs.Tools.{if, Result, refused, done, guard, numberOf}
 use Rattle.protocol.specs.Servers.{Reply}
 use Rattle.protocol.specs.Clients.{Close}
-use Rattle.machines.specs.Rules.{serveRule, falseAnswerRule, writeRule, readRule, closeRule, callRule, advanceRule}
+use Rattle.checked.specs.Rules.{serveRule, falseAnswerRule, writeRule, readRule, closeRule, callRule, advanceRule}
 
 -- the record stays as it is, and nothing is answered by the rule itself
 abbrev pub stays : Server → ℕ → Result Reply

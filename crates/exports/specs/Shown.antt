@@ -11,7 +11,7 @@ use Rattle.protocol.specs.declared.Server.{Server}
 use Rattle.protocol.specs.declared.Message.{Message}
 use Rattle.protocol.specs.Tools.{if, Result, refused, done, guard, numberOf}
 use Rattle.protocol.specs.Servers.{READ, WRITE, START, Reply, keeping, withoutKey, start, serve}
-use Rattle.machines.specs.Rules.{serveRule, falseAnswerRule}
+use Rattle.checked.specs.Rules.{serveRule, falseAnswerRule}
 use Rattle.exports.specs.Rules.{stays, serverRule}
 use Rattle.exports.specs.Calls.{serverCall}
 

@@ -18,14 +18,14 @@ use image::fresh::fresh;
 use image::premise::Report;
 use image::premise::premise;
 use journal::replay::replay;
-use machines::sizes::QuorumSize;
-use machines::sizes::quorum_size;
 use protocol::Called;
 use protocol::Closing;
 use protocol::Served;
 use records::write_administrator;
 use records::write_client;
 use records::write_server;
+use values::sizes::QuorumSize;
+use values::sizes::quorum_size;
 use world::Stepped;
 use world::step::step;
 

@@ -3,7 +3,7 @@ ghost use mathlib.Core.Path.{_≡_};
 ghost use Rattle.protocol.specs.Servers.{served};
 ghost use Rattle.protocol.specs.Clients.{begun, closing, called};
 ghost use Rattle.exports.specs.Rules.{serverRule, clientRule, administratorRule, opens, blankStamp};
-use machines::rules;
+use checked::rules;
 use protocol::Administrator;
 use protocol::Begun;
 use protocol::Called;

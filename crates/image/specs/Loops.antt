@@ -1,26 +1,14 @@
--- What loops over the numbers 1 to n give, and bits by shifts. Assumes nothing.
+-- What loops over the numbers 1 to n give. Assumes nothing.
 use mathlib.Core.Path.{_≡_, refl}
 use mathlib.Core.Bool.{Bool, true, false}
-use Prim.Native.Nat.{ℕ, zero, suc, _+_, _-_, _/_, _%_, _≤_, _^_}
-use native.Mathlib.Nat.{not-suc-le-zero}
+use Prim.Native.Nat.{ℕ, zero, suc, _+_, _≤_}
 use native.Mathlib.Numerals.{add-one}
 use native.Mathlib.Omega.{arith}
-use lib.Dec.{eqb}
-use Rattle.protocol.specs.Tools.{bit, countTo, allTo, holds, bitOf}
+use Rattle.protocol.specs.Tools.{bit, countTo, allTo}
 use Rattle.codec.specs.Spelling.{join}
 use Rattle.codec.specs.Whole.{all-at}
 use Rattle.image.specs.Tests.{by-test, clash}
 use Rattle.image.specs.Counts.{sumTo}
-
-pub holds-at : (bits k : ℕ) → 1 ≤ k → holds bits k ≡ eqb (bits / 2 ^ (k - 1) % 2) 1
-unfolding holds
-holds-at bits zero h = absurd (not-suc-le-zero h)
-holds-at bits (suc k) h = let e : suc k - 1 ≡ k = omega arith in rw e
-
-pub bitOf-at : (k : ℕ) → 1 ≤ k → bitOf k ≡ 2 ^ (k - 1)
-unfolding bitOf
-bitOf-at zero h = absurd (not-suc-le-zero h)
-bitOf-at (suc k) h = let e : suc k - 1 ≡ k = omega arith in rw e
 
 bit-le : (b : Bool) → bit b ≤ 1
 bit-le true = omega arith

@@ -6,8 +6,6 @@ ghost use Rattle.protocol.specs.Worlds.{freshServer, freshWorld};
 ghost use Rattle.codec.specs.Layout.{imageSize};
 ghost use Rattle.codec.specs.Images.{encode};
 ghost use Rattle.image.specs.Fresh.{idleServer, seeded, freshOn};
-use super::bits::holds;
-use super::bits::sized;
 use codec::bytes::clear;
 use codec::bytes::put_bytes;
 use codec::layout::IMAGE;
@@ -24,6 +22,8 @@ use protocol::Stamp;
 use protocol::StampCount;
 use protocol::View;
 use protocol::ViewNumber;
+use values::sizes::holds;
+use values::sizes::sized;
 
 fn server_of(view: u8, keys: u32) -> Server
     ensures { λ r. ⌜ r ≡ idleServer view keys ⌝ }

@@ -1,5 +1,4 @@
 // The image of a world: whether it is readable, the fresh world, and the premise.
-pub mod bits;
 pub mod chain;
 pub mod fresh;
 pub mod plain;

@@ -9,7 +9,6 @@ ghost use Rattle.codec.specs.Layout.{imageSize};
 ghost use Rattle.codec.specs.Places.{administratorAt};
 ghost use Rattle.codec.specs.Images.{decode};
 ghost use Rattle.image.specs.Premise.{within, premiseOn, reported};
-use super::bits::holds;
 use super::readable::readable;
 use codec::layout::IMAGE;
 use codec::layout::SERVERS;
@@ -18,6 +17,7 @@ use codec::places::load_server;
 use codec::places::load_view;
 use protocol::ServerNumber;
 use protocol::ViewNumber;
+use values::sizes::holds;
 
 // A refusal, or whether no view has more faulty key holders than its threshold.
 pub enum Report {

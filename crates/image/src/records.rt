@@ -2,61 +2,22 @@
 ghost use mathlib.Core.Path.{_≡_};
 ghost use Prim.Native.Nat.{_≤_, _^_};
 ghost use lib.Dec.{ltb};
-ghost use Rattle.protocol.specs.Entries.{empty, same as sameEntry, entryFits};
 ghost use Rattle.protocol.specs.Readable.{senderFits, nextFits, entryZero, zeroMessage};
 ghost use Rattle.image.specs.Scan.{viewRule, keyRule, serverRule, tagRule};
-use super::bits::bit_of;
-use super::bits::sized;
 use codec::layout::CLIENTS;
 use codec::layout::END;
 use codec::layout::READ;
 use codec::layout::SERVERS;
 use codec::layout::START;
 use codec::layout::WRITE;
-use protocol::Entry;
 use protocol::Message;
 use protocol::Server;
 use protocol::View;
 use protocol::ViewNumber;
-
-// "writers are at most 16"
-pub fn entry_fits(e: Entry) -> bool
-    ensures { λ r. ⌜ r ≡ entryFits e ⌝ }
-{
-    let stamp = e.stamp;
-    stamp.writer <= CLIENTS
-}
-
-// Equal in every field.
-pub fn same(a: Entry, b: Entry) -> bool
-    ensures { λ r. ⌜ r ≡ sameEntry a b ⌝ }
-{
-    let x = a.stamp;
-    let y = b.stamp;
-    let m = x.count;
-    let n = y.count;
-    if m.0 != n.0 {
-        return false;
-    }
-    if x.writer != y.writer {
-        return false;
-    }
-    a.value == b.value
-}
-
-pub fn is_empty(e: Entry) -> bool
-    ensures { λ r. ⌜ r ≡ sameEntry e empty ⌝ }
-{
-    let stamp = e.stamp;
-    let count = stamp.count;
-    if count.0 != 0 {
-        return false;
-    }
-    if stamp.writer != 0 {
-        return false;
-    }
-    e.value == 0
-}
+use values::entries::entry_fits;
+use values::entries::is_empty;
+use values::sizes::bit_of;
+use values::sizes::sized;
 
 // "views obey the size rule"; "Beyond newest (newest+1 while ending) all zero."
 pub fn view_fits(v: View, t: ViewNumber, last: u8) -> bool

@@ -9,11 +9,8 @@ ghost use Rattle.codec.specs.Layout.{imageSize};
 ghost use Rattle.codec.specs.Places.{usedAt, administratorAt};
 ghost use Rattle.codec.specs.Images.{decode};
 ghost use Rattle.image.specs.Scan.{Open, idleRule, askingRule, kindRule};
-use super::records::entry_fits;
 use super::records::entry_zero;
-use super::records::is_empty;
 use super::records::next_fits;
-use super::records::same;
 use super::records::sender_fits;
 use super::records::tag_fits;
 use super::records::zero_message;
@@ -36,6 +33,9 @@ use protocol::Ending;
 use protocol::Message;
 use protocol::MessageNumber;
 use protocol::Phase;
+use values::entries::entry_fits;
+use values::entries::is_empty;
+use values::entries::same;
 
 // A message of that number was sent.
 pub fn present(image: &[u8], n: MessageNumber) -> bool

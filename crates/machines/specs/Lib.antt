@@ -1,9 +1,3 @@
 pub mod Types
-pub mod Bits
-pub mod Sizes
 pub mod Servers
 pub mod Clients
-pub mod Tallies
-pub mod Ranges
-pub mod Rules
-pub mod Example

@@ -1,11 +1,11 @@
 // The rules of the administrator.
-use super::sizes;
 use protocol::Administrator;
 use protocol::Called;
 use protocol::Ending;
 use protocol::MessageNumber;
 use protocol::View;
 use protocol::ViewNumber;
+use values::sizes;
 ghost use mathlib.Core.Path.{_≡_};
 ghost use Rattle.protocol.specs.Clients.{isEnding, endOf, call, called};
 ghost use Rattle.machines.specs.Clients.{advanceIn};

@@ -1,6 +1,4 @@
 // The rules of one client.
-use super::entries;
-use super::sizes;
 use protocol::Begun;
 use protocol::Client;
 use protocol::Closing;
@@ -8,6 +6,8 @@ use protocol::Entry;
 use protocol::MessageNumber;
 use protocol::Phase;
 use protocol::View;
+use values::entries;
+use values::sizes;
 ghost use mathlib.Core.Path.{_≡_};
 ghost use mathlib.Core.Bool.{true};
 ghost use Rattle.machines.specs.Clients.{closeRead, closeWrite};

@@ -1,12 +1,12 @@
 // The rules of one server.
-use super::entries;
-use super::sizes;
 use protocol::Entry;
 use protocol::Message;
 use protocol::Served;
 use protocol::Server;
 use protocol::Shown;
 use protocol::ViewNumber;
+use values::entries;
+use values::sizes;
 ghost use mathlib.Core.Path.{_≡_};
 ghost use Prim.Native.Nat.{_≤_};
 ghost use Rattle.protocol.specs.Tools.{numberOf};

@@ -7,9 +7,9 @@ use mathlib.Core.Path.{_≡_, refl, sym, ap, subst, _∙_}
 use mathlib.Core.List.{List, [], _∷_}
 use lib.Dec.{eqb}
 use borrow.Author.Tests.{ltb-true, eqb-true, eq-eqb, ne-eqb, le-leb, not-false}
-use Rattle.machines.specs.declared.tally.Tally.{Tally}
+use Rattle.values.specs.declared.tally.Tally.{Tally}
 use Rattle.machines.specs.Clients.{advanceIn, advance-in}
-use Rattle.machines.specs.Tallies.{addAnswer, tallyFrom, tallyOf, firstAnswer, closesAt, tally-closes}
+use Rattle.values.specs.Tallies.{addAnswer, tallyFrom, tallyOf, firstAnswer, closesAt, tally-closes}
 use Rattle.protocol.specs.declared.Entry.{Entry}
 use Rattle.protocol.specs.declared.View.{View}
 use Rattle.protocol.specs.declared.Message.{Message}

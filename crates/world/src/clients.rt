@@ -14,10 +14,10 @@ use codec::places::load_client;
 use codec::places::load_used;
 use codec::places::store_client;
 use machines::clients::begin;
-use machines::entries::entry_of;
 use protocol::Begun;
 use protocol::MessageNumber;
 use protocol::ViewNumber;
+use values::entries::entry_of;
 
 // "Write, read: 4, client not idle; 10"
 pub fn begins(image: &mut [u8], c: u8, kind: u8, value: u32) -> Stepped

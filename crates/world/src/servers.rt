@@ -22,18 +22,18 @@ use codec::places::load_server;
 use codec::places::load_used;
 use codec::places::load_view;
 use codec::places::store_server;
-use machines::entries::entry_of;
 use machines::servers::after;
 use machines::servers::may_answer;
 use machines::servers::refuses;
 use machines::servers::shown_by;
-use machines::sizes::holds;
 use protocol::Entry;
 use protocol::MessageNumber;
 use protocol::Server;
 use protocol::ServerNumber;
 use protocol::Shown;
 use protocol::ViewNumber;
+use values::entries::entry_of;
+use values::sizes::holds;
 
 // Server s is in N(t).
 fn is_member(image: &[u8], t: ViewNumber, s: ServerNumber) -> bool

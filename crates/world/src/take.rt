@@ -6,7 +6,7 @@ ghost use Rattle.protocol.specs.Clients.{taken as takenBy};
 ghost use Rattle.protocol.specs.Worlds.{newest as newestOf};
 ghost use Rattle.protocol.specs.Chains.{follow};
 ghost use Rattle.protocol.specs.Steps.{link as linkOf, open?, closes as closesOf, starts, take as takeOf};
-ghost use Rattle.machines.specs.Tallies.{tallyFrom};
+ghost use Rattle.values.specs.Tallies.{tallyFrom};
 ghost use Rattle.codec.specs.Images.{encode, decode};
 ghost use Rattle.world.specs.Images.{Legible, Does};
 ghost use Rattle.world.specs.Takes.{Walk, Takable, Asked, closesWith, linked as linkedOf, wrote, endTaken, clientTaken};
@@ -32,11 +32,6 @@ use machines::administrator::end_of;
 use machines::clients::close;
 use machines::clients::close_size;
 use machines::clients::request_of;
-use machines::sizes::write_size;
-use machines::tally::Tally;
-use machines::tally::add_answer;
-use machines::tally::closes;
-use machines::tally::first_answer;
 use protocol::Called;
 use protocol::Client;
 use protocol::Closing;
@@ -45,6 +40,11 @@ use protocol::Message;
 use protocol::MessageNumber;
 use protocol::Taken;
 use protocol::ViewNumber;
+use values::sizes::write_size;
+use values::tally::Tally;
+use values::tally::add_answer;
+use values::tally::closes;
+use values::tally::first_answer;
 
 // The tally of view t from message n on, with left links still allowed; a is that of the answers before it. "From a request the
 // links are followed until zero"; a loop, so that a long chain takes no stack.

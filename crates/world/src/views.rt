@@ -12,11 +12,11 @@ use codec::places::load_used;
 use codec::places::store_administrator;
 use codec::places::store_view;
 use machines::administrator::call;
-use machines::entries::entry_of;
 use protocol::Called;
 use protocol::MessageNumber;
 use protocol::View;
 use protocol::ViewNumber;
+use values::entries::entry_of;
 
 // "New view t+1, t being the newest: its members and f are recorded and END t is sent." "4, ending; 8, size rule broken or
 // newest is 32; 10."

@@ -1,6 +1,6 @@
 use borrow.Author.Needs.{needs}
 use Rattle.protocol.specs.Servers.{gathering}
-use Rattle.machines.specs.Bits.{bit-in}
+use Rattle.values.specs.Bits.{bit-in}
 use Rattle.machines.proofs.servers.gathering.Statement.{statement}
 use Rattle.machines.proofs.servers.gathering.Tie as tie
 

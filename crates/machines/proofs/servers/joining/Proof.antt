@@ -1,6 +1,6 @@
 use borrow.Author.Needs.{needs}
 use Rattle.protocol.specs.Servers.{joining}
-use Rattle.machines.specs.Bits.{bit-in}
+use Rattle.values.specs.Bits.{bit-in}
 use Rattle.machines.proofs.servers.joining.Statement.{statement}
 use Rattle.machines.proofs.servers.joining.Tie as tie
 

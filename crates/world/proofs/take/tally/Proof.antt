@@ -3,7 +3,7 @@ use native.Mathlib.Omega.{arith}
 use borrow.Author.Needs.{needs}
 use Rattle.protocol.specs.Chains.{follow}
 use Rattle.codec.specs.Images.{decode}
-use Rattle.machines.specs.Tallies.{tallyFrom}
+use Rattle.values.specs.Tallies.{tallyFrom}
 use Rattle.world.specs.Takes.{Walk, tally-zero, tally-none, walk-low, walk-on, tally-on}
 use Rattle.world.proofs.take.tally.Statement.{statement}
 use Rattle.world.proofs.take.tally.Tie as tie

@@ -1,0 +1,32 @@
+use borrow.Author.Needs.{needs}
+use borrow.Author.Tests.{le-leb, lt-leb, eq-eqb, ne-eqb}
+use Rattle.checked.specs.Ranges.{idleFits}
+use Rattle.checked.proofs.ranges.idle_fits.Statement.{statement}
+use Rattle.checked.proofs.ranges.idle_fits.Tie as tie
+
+returns : tie.Need-returns
+unfolding idleFits
+returns c = simp (lt-leb _ _ (c .if1 .taken))
+
+returns-2 : tie.Need-returns-2
+unfolding idleFits
+returns-2 c =
+    simp (
+      ne-eqb _ _ (c .if2 .taken),
+      le-leb _ _ (c .before .before .if1 .left),
+    )
+
+is-empty-requires : tie.Need-is-empty-requires
+is-empty-requires c κs = search needs
+
+returns-3 : tie.Need-returns-3
+unfolding idleFits
+returns-3 c =
+    simp (
+      c .is-empty .ensures,
+      eq-eqb _ _ (c .before .if2 .left),
+      le-leb _ _ (c .before .before .before .if1 .left),
+    )
+
+pub idle-fits-spec : {M : Type 1} → statement M
+idle-fits-spec = tie.close (tie.spec returns returns-2 is-empty-requires returns-3)

@@ -1,0 +1,4 @@
+pub mod Types
+pub mod Ranges
+pub mod Rules
+pub mod Example

@@ -1,0 +1,51 @@
+-- "One machine's rule: 3, record out of range; then as its step." Assumes nothing.
+use Prim.Native.Nat.{ℕ}
+use mathlib.Core.Bool.{Bool, true, not, _&&_}
+use lib.Dec.{eqb, leb}
+use Rattle.checked.specs.Types.{Entry, View, Server, Phase, Idle, Reading, Writing, Client, Administrator, Message}
+use Rattle.protocol.specs.Tools.{within, Result, done, guard}
+use Rattle.protocol.specs.Sizes.{clients, views, messages}
+use Rattle.protocol.specs.Entries.{entryFits}
+use Rattle.protocol.specs.Servers.{ANSWER, Reply, serve, mayAnswer}
+use Rattle.protocol.specs.Clients.{WRITES, READS, begin, Close, close, isEnding, call, advance}
+use Rattle.checked.specs.Ranges.{numberFits, serverInRange, messageInRange, clientInRange, administratorInRange}
+
+-- a message reaches a server
+unfoldable pub serveRule : Server → Message → Bool → Result Reply
+serveRule a m member = guard (serverInRange a && messageInRange m) 3 (serve a m member)
+
+-- a faulty server answers with view t
+unfoldable pub falseAnswerRule : Server → ℕ → Message → Bool → Result Server
+falseAnswerRule a t m source = guard (serverInRange a && (messageInRange m && within 1 views t)) 3 (mayAnswer a t m source)
+
+-- a client begins a write, and a read
+unfoldable pub writeRule : Client → ℕ → ℕ → Result Client
+writeRule c value n = guard (clientInRange c && numberFits n) 3 (begin c WRITES value n)
+
+unfoldable pub readRule : Client → ℕ → Result Client
+readRule c n = guard (clientInRange c && numberFits n) 3 (begin c READS 0 n)
+
+-- the answer m is taken, r being the request that waits, or 0: "5, not an answer; 7, taken before, or its request is neither that of an open phase nor the END number"
+unfoldable pub takeRule : Message → ℕ → Result Message
+takeRule m r =
+    guard (messageInRange m && leb r messages) 3
+    (guard (eqb (m .kind) ANSWER) 5 (guard (not (m .taken) && eqb (m .request .0) r) 7 (done m)))
+
+-- a number is needed where the close sends
+abbrev pub nextFits : Phase → ℕ → Bool
+nextFits Idle n = true
+nextFits (Reading r) n = numberFits n
+nextFits (Writing r) n = true
+
+-- a client's phase closes
+unfoldable pub closeRule : Client → ℕ → Entry → ℕ → Result Close
+closeRule c who e n =
+    guard (clientInRange c && (within 1 clients who && (entryFits e && nextFits (c .phase) n))) 3 (close c who e n)
+
+-- the administrator calls a new view
+unfoldable pub callRule : Administrator → View → ℕ → Result Administrator
+callRule a v n = guard (administratorInRange a && numberFits n) 3 (call a v n)
+
+-- END closes
+unfoldable pub advanceRule : Administrator → Result Administrator
+advanceRule a = guard (administratorInRange a) 3 (guard (isEnding (a .ending)) 7 (done (advance a)))

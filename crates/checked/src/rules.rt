@@ -1,0 +1,183 @@
+// What a host calls: each rule of one machine, 3 for a record out of range, then as its step.
+use super::ranges;
+use machines::administrator;
+use machines::clients;
+use machines::servers;
+use protocol::Administrator;
+use protocol::Begun;
+use protocol::Called;
+use protocol::Client;
+use protocol::Closing;
+use protocol::Entry;
+use protocol::Message;
+use protocol::MessageNumber;
+use protocol::Phase;
+use protocol::Served;
+use protocol::Server;
+use protocol::View;
+use protocol::ViewNumber;
+use values::entries;
+ghost use mathlib.Core.Path.{_≡_};
+ghost use Rattle.protocol.specs.Tools.{numberOf};
+ghost use Rattle.protocol.specs.Servers.{served};
+ghost use Rattle.protocol.specs.Clients.{begun, closing, called};
+ghost use Rattle.checked.specs.Rules.{serveRule, falseAnswerRule, writeRule, readRule, takeRule, nextFits, closeRule, callRule, advanceRule};
+
+// A message reaches a server: 3, 5, 6, 7.
+pub fn serve_rule(a: Server, m: Message, member: bool) -> Served
+    ensures { λ r. ⌜ served r ≡ serveRule a m member ⌝ }
+{
+    let server_ok = ranges::server_in_range(a);
+    if !server_ok {
+        return Served::ServeRefused(3);
+    }
+    let message_ok = ranges::message_in_range(m);
+    if !message_ok {
+        return Served::ServeRefused(3);
+    }
+    servers::serve(a, m, member)
+}
+
+// Whether a faulty server may answer a request with view t, by number: 3, 5, 6, 9.
+pub fn false_answer_rule(a: Server, t: ViewNumber, m: Message, source: bool) -> u8
+    ensures { λ r. ⌜ r ≡ numberOf (falseAnswerRule a (t .0) m source) ⌝ }
+{
+    let server_ok = ranges::server_in_range(a);
+    if !server_ok {
+        return 3;
+    }
+    let message_ok = ranges::message_in_range(m);
+    if !message_ok {
+        return 3;
+    }
+    if t.0 < 1 {
+        return 3;
+    }
+    if 32 < t.0 {
+        return 3;
+    }
+    servers::may_answer(a, t, m, source)
+}
+
+// A client begins a write of a value with its READ, number n: 3, 4.
+pub fn write_rule(c: Client, value: u32, n: MessageNumber) -> Begun
+    ensures { λ r. ⌜ begun r ≡ writeRule c value (n .0) ⌝ }
+{
+    let client_ok = ranges::client_in_range(c);
+    if !client_ok {
+        return Begun::BeginRefused(3);
+    }
+    let number_ok = ranges::number_fits(n);
+    if !number_ok {
+        return Begun::BeginRefused(3);
+    }
+    clients::begin(c, 1, value, n)
+}
+
+// A client begins a read with its READ, number n: 3, 4.
+pub fn read_rule(c: Client, n: MessageNumber) -> Begun
+    ensures { λ r. ⌜ begun r ≡ readRule c (n .0) ⌝ }
+{
+    let client_ok = ranges::client_in_range(c);
+    if !client_ok {
+        return Begun::BeginRefused(3);
+    }
+    let number_ok = ranges::number_fits(n);
+    if !number_ok {
+        return Begun::BeginRefused(3);
+    }
+    clients::begin(c, 2, 0, n)
+}
+
+// Whether a message is an answer that may be taken, by number, r being the request that waits, or 0: 3; 5, not an answer; 7, taken
+// before, or of another request.
+pub fn take_rule(m: Message, r: MessageNumber) -> u8
+    ensures { λ k. ⌜ k ≡ numberOf (takeRule m (r .0)) ⌝ }
+{
+    let message_ok = ranges::message_in_range(m);
+    if !message_ok {
+        return 3;
+    }
+    if 1023 < r.0 {
+        return 3;
+    }
+    let request = m.request;
+    if m.kind != 5 {
+        return 5;
+    }
+    if m.taken {
+        return 7;
+    }
+    if request.0 != r.0 {
+        return 7;
+    }
+    0
+}
+
+// The number of the message that closing a phase sends, where it sends one.
+fn next_fits(p: Phase, n: MessageNumber) -> bool
+    ensures { λ r. ⌜ r ≡ nextFits p (n .0) ⌝ }
+{
+    match p {
+        Phase::Idle => true,
+        Phase::Reading(_) => ranges::number_fits(n),
+        Phase::Writing(_) => true,
+    }
+}
+
+// A phase of client number who closes with the entry e; the WRITE that closing READ sends has the number n: 3, 7, 11.
+pub fn close_rule(c: Client, who: u8, e: Entry, n: MessageNumber) -> Closing
+    ensures { λ r. ⌜ closing r ≡ closeRule c who e (n .0) ⌝ }
+{
+    let phase = c.phase;
+    let client_ok = ranges::client_in_range(c);
+    if !client_ok {
+        return Closing::CloseRefused(3);
+    }
+    if who < 1 {
+        return Closing::CloseRefused(3);
+    }
+    if 16 < who {
+        return Closing::CloseRefused(3);
+    }
+    let entry_ok = entries::entry_fits(e);
+    if !entry_ok {
+        return Closing::CloseRefused(3);
+    }
+    let number_ok = next_fits(phase, n);
+    if !number_ok {
+        return Closing::CloseRefused(3);
+    }
+    clients::close(c, who, e, n)
+}
+
+// The administrator calls a new view with END of the newest, number n: 3, 4, 8.
+pub fn call_rule(a: Administrator, v: View, n: MessageNumber) -> Called
+    ensures { λ r. ⌜ called r ≡ callRule a v (n .0) ⌝ }
+{
+    let administrator_ok = ranges::administrator_in_range(a);
+    if !administrator_ok {
+        return Called::CallRefused(3);
+    }
+    let number_ok = ranges::number_fits(n);
+    if !number_ok {
+        return Called::CallRefused(3);
+    }
+    administrator::call(a, v, n)
+}
+
+// END closes, and the called view becomes the newest: 3, 7, not ending.
+pub fn advance_rule(a: Administrator) -> Called
+    ensures { λ r. ⌜ called r ≡ advanceRule a ⌝ }
+{
+    let ending = a.ending;
+    let administrator_ok = ranges::administrator_in_range(a);
+    if !administrator_ok {
+        return Called::CallRefused(3);
+    }
+    let busy = administrator::is_ending(ending);
+    if !busy {
+        return Called::CallRefused(7);
+    }
+    administrator::advance(a)
+}

@@ -1,0 +1,110 @@
+-- What a walk along taken answers gathers, and that it is what the answers say. Assumes nothing.
+use Prim.Native.Nat.{ℕ, _≤_, _<_}
+use mathlib.Core.Bool.{Bool, true, false, _||_, _&&_, or-false}
+use mathlib.Core.Option.{Option, none, some}
+use mathlib.Core.Path.{_≡_, refl, sym, ap, ap₂, _∙_}
+use mathlib.Core.List.{List, [], _∷_}
+use borrow.Author.Tests.{eq-eqb}
+use lib.Dec.{leb, eqb}
+use lib.Bits.{bitOr}
+use Rattle.values.specs.declared.tally.Tally.{Tally}
+use Rattle.protocol.specs.declared.Entry.{Entry}
+use Rattle.protocol.specs.declared.Message.{Message}
+use Rattle.protocol.specs.Tools.{if, countTo, any, holds}
+use Rattle.protocol.specs.Sizes.{servers}
+use Rattle.protocol.specs.Entries.{larger, largest, chosen}
+use Rattle.protocol.specs.Worlds.{World, message}
+use Rattle.protocol.specs.Chains.{tagged, heard, enough, shown}
+use Rattle.values.specs.Bits.{bitIn, holds-or, bit-held, count-same}
+
+-- the answer just taken
+unfoldable pub firstAnswer : Message → Tally
+firstAnswer m = record { seen = bitIn (m .sender); best = m .entry }
+
+-- one older answer more: "the answers taken with that answer's view t"; "equal stamps: the one taken first"
+unfoldable pub addAnswer : Tally → ℕ → Message → Tally
+addAnswer a t m =
+    if (eqb (m .view .0) t) (record { seen = bitOr (a .seen) (bitIn (m .sender)); best = larger (m .entry) (a .best) }) a
+
+-- the entry chosen, where the answers come from enough different servers
+unfoldable pub closesAt : Tally → ℕ → Option Entry
+closesAt a size = if (leb size (countTo (holds (a .seen)) servers)) (some (a .best)) none
+
+-- the tally of view t along the answers ks of a world, from the newest to the oldest, a being that of those before them
+unfoldable pub tallyFrom : World → ℕ → Tally → List ℕ → Tally
+tallyFrom w t a [] = a
+tallyFrom w t a (k ∷ ks) = tallyFrom w t (addAnswer a t (message w k)) ks
+
+-- the tally of the answer k just taken and of the answers ks taken before it
+unfoldable pub tallyOf : World → ℕ → List ℕ → Tally
+tallyOf w k ks = tallyFrom w (message w k .view .0) (firstAnswer (message w k)) ks
+
+-- the servers seen are those heard
+added : (b : Bool) (a : Tally) (m : Message) (s : ℕ) → 0 < s → s ≤ 32
+    → holds ((if b (record { seen = bitOr (a .seen) (bitIn (m .sender)); best = larger (m .entry) (a .best) }) a) .seen) s
+    ≡ holds (a .seen) s || (b && eqb (m .sender) s)
+added true a m s h k = holds-or (a .seen) (bitIn (m .sender)) s ∙ ap (λ (b : Bool). holds (a .seen) s || b) (bit-held (m .sender) s h k)
+added false a m s h k = sym (or-false (holds (a .seen) s))
+
+or-assoc : (a b c : Bool) → (a || b) || c ≡ a || (b || c)
+or-assoc true b c = refl
+or-assoc false b c = refl
+
+pub seen-heard : (w : World) (t : ℕ) (a : Tally) (ks : List ℕ) (s : ℕ) → 0 < s → s ≤ 32
+    → holds (tallyFrom w t a ks .seen) s ≡ holds (a .seen) s || heard w t ks s
+unfolding tallyFrom addAnswer heard any
+seen-heard w t a [] s h k = sym (or-false (holds (a .seen) s))
+seen-heard w t a (x ∷ ks) s h k =
+    let m : Message = message w x in
+    let b : Bool = eqb (m .view .0) t in
+    seen-heard w t (addAnswer a t m) ks s h k
+    ∙ ap (λ (c : Bool). c || heard w t ks s) (added b a m s h k)
+    ∙ or-assoc (holds (a .seen) s) (b && eqb (m .sender) s) (heard w t ks s)
+
+-- the best is the largest of those shown
+kept : (b : Bool) (a : Tally) (m : Message) (es : List Entry)
+    → largest ((if b (record { seen = bitOr (a .seen) (bitIn (m .sender)); best = larger (m .entry) (a .best) }) a) .best) es
+    ≡ largest (a .best) (if b (m .entry ∷ es) es)
+unfolding largest
+kept true a m es = refl
+kept false a m es = refl
+
+pub best-largest : (w : World) (t : ℕ) (a : Tally) (ks : List ℕ) → tallyFrom w t a ks .best ≡ largest (a .best) (shown w t ks)
+unfolding tallyFrom addAnswer shown largest
+best-largest w t a [] = refl
+best-largest w t a (x ∷ ks) =
+    let m : Message = message w x in
+    best-largest w t (addAnswer a t m) ks ∙ kept (eqb (m .view .0) t) a m (shown w t ks)
+
+-- the answer just taken is one of its own view
+own : (w : World) (k : ℕ) → tagged w (message w k .view .0) k ≡ true
+own w k = eq-eqb (message w k .view .0) (message w k .view .0) refl
+
+pub first-seen : (w : World) (k s : ℕ) (ks : List ℕ) → 0 < s → s ≤ 32
+    → holds (tallyOf w k ks .seen) s ≡ heard w (message w k .view .0) (k ∷ ks) s
+unfolding tallyOf firstAnswer heard any
+first-seen w k s ks h b =
+    let t : ℕ = message w k .view .0 in
+    seen-heard w t (firstAnswer (message w k)) ks s h b
+    ∙ ap (λ (c : Bool). c || heard w t ks s) (bit-held (message w k .sender) s h b ∙ ap (λ (c : Bool). c && eqb (message w k .sender) s) (sym (own w k)))
+
+-- as many servers are seen as are heard
+pub seen-count : (w : World) (k : ℕ) (ks : List ℕ)
+    → countTo (holds (tallyOf w k ks .seen)) servers ≡ countTo (heard w (message w k .view .0) (k ∷ ks)) servers
+seen-count w k ks =
+    count-same (holds (tallyOf w k ks .seen)) (heard w (message w k .view .0) (k ∷ ks)) servers (λ s h b. first-seen w k s ks h b)
+
+pub best-chosen : (w : World) (k : ℕ) (ks : List ℕ) → tallyOf w k ks .best ≡ chosen (shown w (message w k .view .0) (k ∷ ks))
+unfolding tallyOf firstAnswer shown
+best-chosen w k ks =
+    let t : ℕ = message w k .view .0 in
+    best-largest w t (firstAnswer (message w k)) ks
+    ∙ ap (λ (b : Bool). chosen (if b (message w k .entry ∷ shown w t ks) (shown w t ks))) (sym (own w k))
+
+-- a tally closes where there are enough answers of its view, with the entry chosen of them
+pub tally-closes : (w : World) (k : ℕ) (ks : List ℕ) (size : ℕ)
+    → closesAt (tallyOf w k ks) size
+    ≡ if (enough w (message w k .view .0) (k ∷ ks) size) (some (chosen (shown w (message w k .view .0) (k ∷ ks)))) none
+unfolding closesAt enough
+tally-closes w k ks size =
+    ap₂ (λ (n : ℕ) (e : Entry). if (leb size n) (some e) none) (seen-count w k ks) (best-chosen w k ks)
