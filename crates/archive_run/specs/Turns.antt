@@ -10,7 +10,7 @@ use lib.Dec.{leb, eqb}
 use borrow.Author.Tests.{le-leb, lt-leb, eq-eqb, ne-eqb}
 use Rattle.protocol.specs.declared.Client.{Client}
 use Rattle.protocol.specs.declared.Step.{Step}
-use Rattle.protocol.specs.Tools.{if, within, Result, refused, done, guard, passed}
+use Rattle.protocol.specs.Tools.{if, within, Result, refused, done, guard}
 use Rattle.protocol.specs.Sizes.{clients}
 use Rattle.protocol.specs.Steps.{After, step}
 use Rattle.protocol.specs.Runs.{stepWidth, stepOf}
@@ -25,16 +25,11 @@ use Rattle.image.specs.Fresh.{Outcome, outcome, freshOn}
 use Rattle.consistency.specs.Steps.{stepOn, leftBy}
 use Rattle.world.specs.declared.Stepped.{Stepped}
 use Rattle.world.specs.declared.Stepped.the-variants.{StepRefused, StepDone}
-use Rattle.preservation.specs.Kept.{step-kept}
 use Rattle.preservation.specs.Begun.{fresh-kept}
-use Rattle.image.specs.Readable.{readable, world-decode, world-readable}
+use Rattle.image.specs.Readable.{readable, world-readable}
 use Rattle.world.specs.Images.{stepped, Legible, Does}
 use Rattle.journal.specs.Replays.{spelled, advanced}
 use Rattle.lines.specs.Lines.{operationLine}
-use Rattle.bounds.specs.Progress.{progress, limit}
-use Rattle.bounds.specs.Theorem.{moves, bounded}
-use Rattle.archive_run.specs.declared.Onward.{Onward}
-use Rattle.archive_run.specs.declared.Onward.the-variants.{More, Stop}
 use Rattle.archive_run.specs.declared.turns.Moved.{Moved}
 use Rattle.archive_run.specs.declared.turns.Moved.the-variants.{Stopped, Went}
 
@@ -67,15 +62,6 @@ measured (done a) = done (length (lineOn (encode (a .world)) (a .completed)))
 abbrev pub turned : Moved → Result ℕ
 turned (Stopped n) = refused n
 turned (Went k) = done k
-
--- how far the world of an image has come
-unfoldable pub reach : List ℕ → ℕ
-reach l = progress (decode l)
-
--- a turn that goes on brings the world further
-abbrev pub Further : Onward → List ℕ → List ℕ → Type 0
-Further More l l′ = reach l < reach l′
-Further (Stop n) l l′ = Unit {0}
 
 -- ---- the line of a client's number
 
@@ -158,24 +144,3 @@ first-legible i b e = go (eqb (length b) stepWidth) (firstFits (stepOf b)) (fres
     go true true x h e = h e
     go true false x h e = absurd (omega arith)
     go false q x h e = absurd (omega arith)
-
--- ---- a turn that goes on brings the world further
-
-pub went-further : (l l′ b : List ℕ) (r : Moved) (k : ℕ) → Legible l → r ≡ Went k → turned r ≡ measured (stepOn l b) → l′ ≡ leftBy l (stepOn l b) → reach l < reach l′
-unfolding reach stepOn
-went-further l l′ b r k h w e q = go (stepOn l b) refl (ap turned (sym w) ∙ e) q
-  where
-    go : (x : Result After) → stepOn l b ≡ x → done k ≡ measured x → l′ ≡ leftBy l x → progress (decode l) < progress (decode l′)
-    go (refused n) f e q = let z : _≡_ {A = ℕ} 0 1 = cc in absurd (omega arith)
-    go (done a) f e q =
-        let (p, f1) = passed _ _ _ _ f in
-        let (o, f2) = passed _ _ _ _ f1 in
-        let d : decode l′ ≡ a .world = ap decode q ∙ world-decode (a .world) (step-kept (decode l) (h .formed) (stepOf b) a f2) in
-        rw d (moves (decode l) (h .formed) (stepOf b) a f2)
-
-pub reach-most : (l : List ℕ) → Legible l → reach l ≤ limit
-unfolding reach
-reach-most l h = bounded (decode l) (h .formed)
-
-pub goes-on : (r : Onward) (l l′ : List ℕ) → r ≡ More → Legible l′ × Further r l l′ → (reach l < reach l′) × (reach l′ ≤ limit)
-goes-on r l l′ e (h, f) = (subst (λ (x : Onward). Further x l l′) e f, reach-most l′ h)

@@ -2,7 +2,7 @@
 pub mod turns;
 
 ghost use Rattle.world.specs.Images.{Legible};
-ghost use Rattle.archive_run.specs.Turns.{Further};
+ghost use Rattle.archive_run.specs.Loop.{Led, Stops, Says};
 use codec::layout::IMAGE;
 use codec::layout::STEP;
 use libc::STDIN_FILENO;
@@ -17,6 +17,12 @@ use turns::turn;
 enum Onward {
     More,
     Stop(u8),
+}
+
+// What the last line tells: the steps accepted, and the refusal of the stop or 0.
+struct Ended {
+    steps: u32,
+    refusal: u8,
 }
 
 fn print(line: &[u8], n: usize) {
@@ -34,7 +40,7 @@ fn finish(steps: u32, refusal: u8) {
 // Reads a record, takes its step and prints the line of the operation that it completed.
 fn next(image: &mut [u8]) -> Onward
     requires { ⌜ Legible (now image) ⌝ }
-    ensures { λ r. ⌜ Legible (now (image .exit)) × Further r (now (image .entry)) (now (image .exit)) ⌝ }
+    ensures { λ r. ⌜ Says r (now (image .entry)) (now (image .exit)) ⌝ }
 {
     let mut bytes = [0u8; STEP];
     let mut line = [0u8; LINE];
@@ -52,16 +58,19 @@ fn next(image: &mut [u8]) -> Onward
     }
 }
 
-// Turns until one stops. No count of turns can cut an input short: each turn that goes on brings the world further, and none
+// Turns until one stops. No count of turns can cut the input short: each turn that goes on brings the world further, and none
 // comes further than 3,102, so the loop ends.
-fn steps(image: &mut [u8])
+fn steps(image: &mut [u8]) -> Ended
     requires { ⌜ Legible (now image) ⌝ }
+    ensures { λ r. ⌜ Led (now (image .entry)) (r .steps) (now (image .exit)) × Stops (now (image .exit)) (r .refusal) ⌝ }
 {
     let mut k = 0u32;
     loop {
         if let Onward::Stop(refusal) = next(image) {
-            finish(k, refusal);
-            return;
+            return Ended {
+                steps: k,
+                refusal: refusal,
+            };
         }
         k += 1;
     }
@@ -77,5 +86,6 @@ pub fn run() {
         finish(0, refusal);
         return;
     }
-    steps(&mut image);
+    let e = steps(&mut image);
+    finish(e.steps, e.refusal);
 }

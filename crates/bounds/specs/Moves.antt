@@ -1,12 +1,11 @@
 -- Every accepted step brings a readable world further. Assumes nothing.
-use Prim.Native.Nat.{ℕ, zero, suc, _+_, _^_, _≤_, _<_}
+use Prim.Native.Nat.{ℕ, _+_, _^_, _≤_, _<_}
 use native.Mathlib.Nat.{le-refl}
 use native.Mathlib.Decide.{ℕ-discrete, decLe}
 use native.Mathlib.Omega.{arith}
 use mathlib.Core.Bool.{Bool, true, false, not, _&&_, _||_}
-use mathlib.Core.Path.{_≡_, refl, sym, ap, subst, _∙_}
-use mathlib.Core.Logic.{_⊎_, inl, inr, _≢_}
-use mathlib.Core.Option.{Option, none, some}
+use mathlib.Core.Path.{_≡_, refl, ap, subst, _∙_}
+use mathlib.Core.Logic.{_⊎_, inl, inr}
 use lib.Dec.{ltb, leb, eqb}
 use lib.Bits.{bitOr}
 use borrow.Author.Tests.{ltb-true, leb-true, eqb-true, le-leb, eq-eqb, not-true}
@@ -17,7 +16,7 @@ use Rattle.protocol.specs.declared.Client.{Client}
 use Rattle.protocol.specs.declared.Administrator.{Administrator}
 use Rattle.protocol.specs.declared.Message.{Message}
 use Rattle.protocol.specs.declared.Step.{Step}
-use Rattle.protocol.specs.Tools.{if, bit, within, holds, bitOf, Result, done, guard, passed}
+use Rattle.protocol.specs.Tools.{if, bit, holds, bitOf, done, guard, passed}
 use Rattle.protocol.specs.Sizes.{servers, views, messages, writeSize}
 use Rattle.protocol.specs.Entries.{chosen}
 use Rattle.protocol.specs.Servers.{WRITE, END, START, Reply, keeping, withoutKey, joining, gathering, serve, mayAnswer}
@@ -36,7 +35,7 @@ use Rattle.preservation.specs.Formed.{Formed}
 use Rattle.preservation.specs.Links.{Untaken, link-taken-other, v-taken}
 use Rattle.preservation.specs.Updates.{mail-zero, request-of, present-is}
 use Rattle.preservation.specs.Kept.{mailed}
-use Rattle.bounds.specs.Progress.{sumTo, reached, gained, progress, sum-le, sum-less, bit-le, bit-less}
+use Rattle.bounds.specs.Progress.{reached, gained, progress, sum-le, sum-less, bit-le, bit-less}
 
 -- ---- what a server reaches
 
@@ -147,10 +146,10 @@ record Clear (w : World) : Type 0 where
 
 clear : {w : World} → Formed w → Clear w
 unfolding zeroMessage
-clear {w} h = record { beyond = λ n l u. zero (message w n) (mail-zero h n l u) }
+clear {w} h = record { beyond = λ n l u. untaken (message w n) (mail-zero h n l u) }
   where
-    zero : (m : Message) → zeroMessage m ≡ true → m .taken ≡ false
-    zero m e =
+    untaken : (m : Message) → zeroMessage m ≡ true → m .taken ≡ false
+    untaken m e =
         let e1 = and-right (eqb (m .kind) 0) _ e in
         let e2 = and-right (eqb (m .sender) 0) _ e1 in
         not-true _ (and-left _ _ (and-right (eqb (m .view .0) 0) _ e2))
@@ -237,40 +236,44 @@ with-view w a t v = record { used = refl; mail = refl; served = refl }
 
 -- ---- every step
 
+-- a step that led to a brought w further
+abbrev pub Further : World → After → Type 0
+Further w a = progress w < progress (a .world)
+
 -- a step led to u, or sent m there
 module _ (w u : World) (a : After) where
-  stays : progress w < progress u → moved u ≡ done a → progress w < progress (a .world)
-  stays l e = subst (λ (x : After). progress w < progress (x .world)) (done-is e) l
+  stays : progress w < progress u → moved u ≡ done a → Further w a
+  stays l e = subst (Further w) (done-is e) l
 
-  sends : progress w ≤ progress u → Clear u → (m : Message) → guard (room w) 10 (moved (send u m)) ≡ done a → progress w < progress (a .world)
+  sends : progress w ≤ progress u → Clear u → (m : Message) → guard (room w) 10 (moved (send u m)) ≡ done a → Further w a
   sends l c m e =
       let (p, e1) = passed _ _ _ _ e in
-      subst (λ (x : After). progress w < progress (x .world)) (done-is e1) (omega (arith, send-up c m))
+      subst (Further w) (done-is e1) (omega (arith, send-up c m))
 
 -- and sent m beside what it changed
 module _ (w u v : World) (a : After) where
-  sends-beside : progress w ≤ progress u → Clear u → Beside u v → (m : Message) → guard (room w) 10 (moved (send v m)) ≡ done a → progress w < progress (a .world)
+  sends-beside : progress w ≤ progress u → Clear u → Beside u v → (m : Message) → guard (room w) 10 (moved (send v m)) ≡ done a → Further w a
   sends-beside l c b m e = sends w v a (omega (arith, beside-same b)) (beside-clear b c) m e
 
 module _ {w : World} (h : Formed w) where
-  begins-moves : (c kind value : ℕ) (a : After) → begins w c kind value ≡ done a → progress w < progress (a .world)
+  begins-moves : (c kind value : ℕ) (a : After) → begins w c kind value ≡ done a → Further w a
   unfolding begins
   begins-moves c kind value a e = let g = went (begin (client w c) kind value (w .used + 1)) _ _ e in sends-beside w w (withClient w c (g .value)) a (le-refl _) (clear h) (with-client w c (g .value)) _ (g .on)
 
-  newView-moves : (v : View) (a : After) → newView w v ≡ done a → progress w < progress (a .world)
+  newView-moves : (v : View) (a : After) → newView w v ≡ done a → Further w a
   unfolding newView
   newView-moves v a e =
       let g = went (call (w .administrator) v (w .used + 1)) _ _ e in
       sends-beside w w (withView (withAdministrator w (g .value)) (newest w + 1) v) a (le-refl _) (clear h) (with-view w (g .value) (newest w + 1) v) _ (g .on)
 
-  lie-moves : (s t n source : ℕ) (a : After) → lie w s t n source ≡ done a → progress w < progress (a .world)
+  lie-moves : (s t n source : ℕ) (a : After) → lie w s t n source ≡ done a → Further w a
   unfolding lie
   lie-moves s t n source a e =
       let (p, e1) = passed _ _ _ _ e in
       let g = went (mayAnswer (server w s) t (message w n) (source? w source)) _ _ e1 in
       sends w w a (le-refl _) (clear h) _ (g .on)
 
-  fault-moves : {s : ℕ} → IsServer s → (a : After) → fault w s ≡ done a → progress w < progress (a .world)
+  fault-moves : {s : ℕ} → IsServer s → (a : After) → fault w s ≡ done a → Further w a
   unfolding fault
   fault-moves {s} i a e = let (p, e1) = passed _ _ _ _ e in stays w _ a (server-up h i _ (faulty-gains (server w s) (not-true _ p))) e1
 
@@ -305,7 +308,7 @@ gathers-new a m i r e k f =
     (ltb-true _ _ (and-right i _ q), not-true _ n)
 
 module _ {w : World} (h : Formed w) {s : ℕ} (i : IsServer s) where
-  deliver-moves : (n : ℕ) (a : After) → deliver w s n ≡ done a → progress w < progress (a .world)
+  deliver-moves : (n : ℕ) (a : After) → deliver w s n ≡ done a → Further w a
   unfolding deliver
   deliver-moves n a e =
       let (p, e1) = passed _ _ _ _ e in
@@ -318,13 +321,13 @@ module _ {w : World} (h : Formed w) {s : ℕ} (i : IsServer s) where
       m : Message
       m = message w n
 
-      answering : (b : Server) → gained x ≤ gained b → (o : Message) → guard (room w) 10 (moved (send (withServer w s b) o)) ≡ done a → progress w < progress (a .world)
+      answering : (b : Server) → gained x ≤ gained b → (o : Message) → guard (room w) 10 (moved (send (withServer w s b) o)) ≡ done a → Further w a
       answering b l o e = sends w (withServer w s b) a (server-on h i b l) (server-clear h i b) o e
 
-      silent : (b : Server) → gained x < gained b → moved (withServer w s b) ≡ done a → progress w < progress (a .world)
+      silent : (b : Server) → gained x < gained b → moved (withServer w s b) ≡ done a → Further w a
       silent b l e = stays w (withServer w s b) a (server-up h i b l) e
 
-      go : (1 ≤ n) × (n ≤ w .used) → (y : Reply) → serve x m (member w (m .view .0) s) ≡ done y → Serving x m (member w (m .view .0) s) y → answers (y .answer) w s n (y .server) ≡ done a → progress w < progress (a .world)
+      go : (1 ≤ n) × (n ≤ w .used) → (y : Reply) → serve x m (member w (m .view .0) s) ≡ done y → Serving x m (member w (m .view .0) s) y → answers (y .answer) w s n (y .server) ≡ done a → Further w a
       go r y z (reads c q d) e = answering x (le-refl _) _ (rw d at e)
       go r y z (writes c q d) e = answering (keeping x (m .entry)) (keeping-gains x (m .entry)) _ (rw d at e)
       go r y z (ends c f q d) e = answering (withoutKey x) (withoutKey-gains x (own h i) f) _ (rw d at e)
@@ -334,39 +337,39 @@ module _ {w : World} (h : Formed w) {s : ℕ} (i : IsServer s) where
           silent (gathering x m) (gathering-gains x m l k (start-tag h n (r .0) (r .1) c)) (rw d at e)
 
 module _ {w : World} (h : Formed w) {k r : ℕ} (u : Untaken w k r) where
-  linked : (a : After) → moved (link w k) ≡ done a → progress w < progress (a .world)
+  linked : (a : After) → moved (link w k) ≡ done a → Further w a
   linked a e = stays w (link w k) a (link-up h u) e
 
   -- a phase of client c closes
-  closes-moves : (c : ℕ) (x : Entry) (a : After) → closes w k c x ≡ done a → progress w < progress (a .world)
+  closes-moves : (c : ℕ) (x : Entry) (a : After) → closes w k c x ≡ done a → Further w a
   unfolding closes
   closes-moves c x a e = let g = went (close (client w c) c x (w .used + 1)) _ _ e in go (g .value) (g .value .complete) (g .on)
     where
       go : (y : Close) (b : Bool) → if b (done (record { world = withClient (link w k) c (y .client); completed = c }))
           (guard (room w) 10 (moved (send (withClient (link w k) c (y .client)) (request WRITE c 0 (y .client .entry))))) ≡ done a
-          → progress w < progress (a .world)
-      go y true e = subst (λ (z : After). progress w < progress (z .world)) (done-is e) (omega (arith, link-up h u, beside-same (with-client (link w k) c (y .client))))
+          → Further w a
+      go y true e = subst (Further w) (done-is e) (omega (arith, link-up h u, beside-same (with-client (link w k) c (y .client))))
       go y false e = sends-beside w (link w k) (withClient (link w k) c (y .client)) a (omega (arith, link-up h u)) (link-clear h u) (with-client (link w k) c (y .client)) _ e
 
   -- the END of the newest view closes
-  starts-moves : (x : Entry) (a : After) → starts w k x ≡ done a → progress w < progress (a .world)
+  starts-moves : (x : Entry) (a : After) → starts w k x ≡ done a → Further w a
   unfolding starts
   starts-moves x a e =
       sends-beside w (link w k) (withAdministrator (link w k) (advance (w .administrator))) a (omega (arith, link-up h u)) (link-clear h u) (with-administrator (link w k) (advance (w .administrator))) _ e
 
-  takes-moves : (t : ℕ) (a : After) → takes w k r t ≡ done a → progress w < progress (a .world)
+  takes-moves : (t : ℕ) (a : After) → takes w k r t ≡ done a → Further w a
   unfolding takes
   takes-moves t a e =
       go (eqb (message w r .kind) END) (eqb t (newest w) && enough w t (takenWith w k) (writeSize (view w t))) (enough w t (takenWith w k) (closeSize (client w (message w r .sender) .phase) (view w t))) e
     where
       go : (b c d : Bool) → if b (if c (starts w k (chosen (shown w t (takenWith w k)))) (moved (link w k))) (if d (closes w k (message w r .sender) (chosen (shown w t (takenWith w k)))) (moved (link w k))) ≡ done a
-          → progress w < progress (a .world)
+          → Further w a
       go true true d e = starts-moves _ a e
       go true false d e = linked a e
       go false c true e = closes-moves _ _ a e
       go false c false e = linked a e
 
-take-moves : {w : World} → Formed w → (k : ℕ) (a : After) → take w k ≡ done a → progress w < progress (a .world)
+take-moves : {w : World} → Formed w → (k : ℕ) (a : After) → take w k ≡ done a → Further w a
 unfolding take
 take-moves {w} h k a e =
     let (p, e1) = passed _ _ _ _ e in
@@ -391,7 +394,7 @@ take-moves {w} h k a e =
     (message w k .view .0) a e2
 
 -- Every accepted step brings a readable world further.
-pub step-moves : {w : World} → Formed w → (st : Step) (a : After) → step w st ≡ done a → progress w < progress (a .world)
+pub step-moves : {w : World} → Formed w → (st : Step) (a : After) → step w st ≡ done a → Further w a
 unfolding step perform uses
 step-moves {w} h st a e =
     let (f, e1) = passed _ _ _ _ e in
@@ -400,7 +403,7 @@ step-moves {w} h st a e =
     go : fieldsFit st ≡ true → (b1 b2 b3 b4 b5 b6 : Bool) → eqb (st .kind) 3 ≡ b3 → eqb (st .kind) 5 ≡ b5
         → if b1 (begins w (st .who) WRITES (st .value)) (if b2 (begins w (st .who) READS 0) (if b3 (deliver w (st .who) (st .message .0)) (if b4 (take w (st .message .0))
         (if b5 (fault w (st .who)) (if b6 (lie w (st .who) (st .view .0) (st .message .0) (st .source .0)) (newView w (record { members = st .value; f = st .f }))))))) ≡ done a
-        → progress w < progress (a .world)
+        → Further w a
     go f true b2 b3 b4 b5 b6 e3 e5 e = begins-moves h (st .who) WRITES (st .value) a e
     go f false true b3 b4 b5 b6 e3 e5 e = begins-moves h (st .who) READS 0 a e
     go f false false true b4 b5 b6 e3 e5 e = deliver-moves h (who-server st 3 f (eqb-true _ _ e3) refl refl) (st .message .0) a e

@@ -10,7 +10,7 @@ use Rattle.protocol.specs.declared.Server.{Server}
 use Rattle.protocol.specs.Tools.{bit, holds}
 use Rattle.protocol.specs.Sizes.{servers, views, messages}
 use Rattle.protocol.specs.Worlds.{World, server, message}
-use Rattle.protocol.specs.Laws.Tests.{clash, last-or}
+use Rattle.protocol.specs.Laws.Tests.{last-or}
 
 -- the sum of g 1 to g n
 unfoldable pub sumTo : (ℕ → ℕ) → ℕ → ℕ

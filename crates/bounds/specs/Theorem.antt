@@ -1,14 +1,14 @@
 -- No world accepts more than 3,102 steps. Assumes nothing.
-use Prim.Native.Nat.{ℕ, zero, suc, _+_, _≤_, _<_}
+use Prim.Native.Nat.{ℕ, _+_, _≤_, _<_}
 use native.Mathlib.Omega.{arith}
-use mathlib.Core.Bool.{Bool, true}
+use mathlib.Core.Bool.{true}
 use mathlib.Core.Path.{_≡_, refl}
 use mathlib.Core.List.{List, [], _∷_}
 use Rattle.protocol.specs.declared.Step.{Step}
 use Rattle.protocol.specs.Tools.{Result, refused, done, passed}
 use Rattle.protocol.specs.Worlds.{World, fresh}
 use Rattle.protocol.specs.Steps.{After, step}
-use Rattle.protocol.specs.Runs.{stepOf, stepBytes, Replayed, onward, replay, Run, noted}
+use Rattle.protocol.specs.Runs.{stepOf, stepBytes, onward, replay, Run, noted}
 use Rattle.protocol.specs.Readable.{wellFormed}
 use Rattle.preservation.specs.Formed.{formed}
 use Rattle.preservation.specs.Kept.{step-kept}

@@ -1,4 +1,5 @@
-use Rattle.archive_run.specs.Turns.{went-further}
+use mathlib.Core.Path.{refl}
+use Rattle.archive_run.specs.Loop.{ended, says-stop, says-more}
 use borrow.Author.Needs.{needs}
 use Rattle.archive_run.proofs.next.Statement.{statement}
 use Rattle.archive_run.proofs.next.Tie as tie
@@ -10,7 +11,7 @@ read-full-requires : tie.Need-read-full-requires
 read-full-requires c κs = search needs
 
 returns : tie.Need-returns
-returns c = search needs
+returns c = (refl, ended)
 
 array-share-prefix-bytes : tie.Need-array-share-prefix-bytes
 array-share-prefix-bytes c = search needs
@@ -40,30 +41,13 @@ same-length : tie.Need-same-length
 same-length c = search needs
 
 returns-2 : tie.Need-returns-2
-returns-2 c = search needs
+returns-2 c = says-stop _ _ _ _ _ (c .before .t .given .1) (c .before .before .before .before .before .before .turn .ensures .0 .0) (c .before .before .before .before .before .before .turn .ensures .0 .1)
 
 same-length-2 : tie.Need-same-length-2
 same-length-2 c = search needs
 
 returns-3 : tie.Need-returns-3
-returns-3 c = (c .before .before .before .before .before .before .before .before .turn .ensures .1, went-further _ _ _ _ _ (c .before .before .before .before .before .before .before .before .before .before .before .before .before .before .before .before .before .pre) (c .before .before .before .t2 .given .1) (c .before .before .before .before .before .before .before .before .turn .ensures .0 .0) (c .before .before .before .before .before .before .before .before .turn .ensures .0 .1))
+returns-3 c = says-more _ _ _ _ _ (c .before .before .before .t2 .given .1) (c .before .before .before .before .before .before .before .before .turn .ensures .0 .0) (c .before .before .before .before .before .before .before .before .turn .ensures .0 .1)
 
 pub next-spec : {M : Type 1} → statement M
-next-spec =
-    tie.close
-    (tie.spec
-    slice-aggregate-read-full
-    read-full-requires
-    returns
-    array-share-prefix-bytes
-    slice-aggregate-turn
-    slice-aggregate-turn-2
-    turn-requires
-    enum-known-t
-    enum-known-t-2
-    slice-aggregate-print
-    print-requires
-    same-length
-    returns-2
-    same-length-2
-    returns-3)
+next-spec = tie.close (tie.spec slice-aggregate-read-full read-full-requires returns array-share-prefix-bytes slice-aggregate-turn slice-aggregate-turn-2 turn-requires enum-known-t enum-known-t-2 slice-aggregate-print print-requires same-length returns-2 same-length-2 returns-3)
