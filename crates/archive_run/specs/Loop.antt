@@ -44,6 +44,9 @@ Says (Stop n) l l′ = (l′ ≡ l) × Stops l n
 
 -- ---- a turn
 
+pub says-end : (l : List ℕ) → Says (Stop 0) l l
+says-end l = (refl, ended)
+
 pub says-stop : (l l′ b : List ℕ) (r : Moved) (n : ℕ) → r ≡ Stopped n → turned r ≡ measured (stepOn l b) → l′ ≡ leftBy l (stepOn l b) → Says (Stop n) l l′
 says-stop l l′ b r n w e q = go (stepOn l b) refl (ap turned (sym w) ∙ e) q
   where

@@ -1,5 +1,4 @@
-use mathlib.Core.Path.{refl}
-use Rattle.archive_run.specs.Loop.{ended, says-stop, says-more}
+use Rattle.archive_run.specs.Loop.{says-end, says-stop, says-more}
 use borrow.Author.Needs.{needs}
 use Rattle.archive_run.proofs.next.Statement.{statement}
 use Rattle.archive_run.proofs.next.Tie as tie
@@ -11,7 +10,7 @@ read-full-requires : tie.Need-read-full-requires
 read-full-requires c κs = search needs
 
 returns : tie.Need-returns
-returns c = (refl, ended)
+returns c = says-end (c .before .before .before .before .before .args .image .now)
 
 array-share-prefix-bytes : tie.Need-array-share-prefix-bytes
 array-share-prefix-bytes c = search needs
