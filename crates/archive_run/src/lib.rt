@@ -2,6 +2,7 @@
 pub mod turns;
 
 ghost use Rattle.world.specs.Images.{Legible};
+ghost use Rattle.archive_run.specs.Loop.{Led, Stops, Says};
 use codec::layout::IMAGE;
 use codec::layout::STEP;
 use libc::STDIN_FILENO;
@@ -12,15 +13,16 @@ use turns::Moved;
 use turns::first;
 use turns::turn;
 
-// More turns than any world has steps, so that the input is never cut short. An accepted step sends a message, of which there
-// are 1,023, or takes an answer for the first time, at most as often, or turns one of 32 servers faulty, or is a START, which
-// gives one of them a view or key above its own that it had not: 1,023 + 1,023 + 32 + 32 * 32 = 3,102 steps in all.
-const TURNS: u32 = 4096;
-
 // What a turn left to do: the next one, or the last line with the refusal of the stop or 0.
 enum Onward {
     More,
     Stop(u8),
+}
+
+// What the last line tells: the steps accepted, and the refusal of the stop or 0.
+struct Ended {
+    steps: u32,
+    refusal: u8,
 }
 
 fn print(line: &[u8], n: usize) {
@@ -38,7 +40,7 @@ fn finish(steps: u32, refusal: u8) {
 // Reads a record, takes its step and prints the line of the operation that it completed.
 fn next(image: &mut [u8]) -> Onward
     requires { ⌜ Legible (now image) ⌝ }
-    ensures { λ _. ⌜ Legible (now (image .exit)) ⌝ }
+    ensures { λ r. ⌜ Says r (now (image .entry)) (now (image .exit)) ⌝ }
 {
     let mut bytes = [0u8; STEP];
     let mut line = [0u8; LINE];
@@ -56,14 +58,21 @@ fn next(image: &mut [u8]) -> Onward
     }
 }
 
-fn steps(image: &mut [u8])
+// Turns until one stops. No count of turns can cut the input short: each turn that goes on brings the world further, and none
+// comes further than 3,102, so the loop ends.
+fn steps(image: &mut [u8]) -> Ended
     requires { ⌜ Legible (now image) ⌝ }
+    ensures { λ r. ⌜ Led (now (image .entry)) (r .steps) (now (image .exit)) × Stops (now (image .exit)) (r .refusal) ⌝ }
 {
-    for k in 0..TURNS {
+    let mut k = 0u32;
+    loop {
         if let Onward::Stop(refusal) = next(image) {
-            finish(k, refusal);
-            return;
+            return Ended {
+                steps: k,
+                refusal: refusal,
+            };
         }
+        k += 1;
     }
 }
 
@@ -77,5 +86,6 @@ pub fn run() {
         finish(0, refusal);
         return;
     }
-    steps(&mut image);
+    let e = steps(&mut image);
+    finish(e.steps, e.refusal);
 }

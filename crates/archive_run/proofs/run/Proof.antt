@@ -35,8 +35,11 @@ slice-aggregate-steps c = search needs
 steps-requires : tie.Need-steps-requires
 steps-requires c κs = subst Legible (sym (c .before .before .before .first .ensures .1)) (first-legible _ _ (sym (c .before .before .before .first .ensures .0) ∙ c .before .if1 .left))
 
+finish-requires-2 : tie.Need-finish-requires-2
+finish-requires-2 c κs = search needs
+
 returns-2 : tie.Need-returns-2
 returns-2 c = tt
 
 pub run-spec : {M : Type 1} → statement M
-run-spec = tie.close (tie.spec slice-aggregate-read-full read-full-requires slice-aggregate-first array-share-prefix-bytes slice-aggregate-first-2 first-requires finish-requires returns slice-aggregate-steps steps-requires returns-2)
+run-spec = tie.close (tie.spec slice-aggregate-read-full read-full-requires slice-aggregate-first array-share-prefix-bytes slice-aggregate-first-2 first-requires finish-requires returns slice-aggregate-steps steps-requires finish-requires-2 returns-2)
