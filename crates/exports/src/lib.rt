@@ -29,9 +29,6 @@ use values::sizes::quorum_size;
 use world::Stepped;
 use world::step::step;
 
-// What is left of an answer beside the refusal: 2^56. No world has as many steps.
-const STEPS: u64 = 72057594037927936;
-
 // "Fresh world (member bits, f)": refusal.
 #[no_mangle]
 pub extern "C" fn zw_fresh(image: &mut [u8], members: u32, f: u8) -> u64
@@ -77,14 +74,13 @@ pub extern "C" fn zw_premise(image: &[u8]) -> u64
     }
 }
 
-// "Replay (image, journal)": refusal, steps done.
+// "Replay (image, journal)": refusal, steps done; they fit, as no world accepts more than 3,102.
 #[no_mangle]
 pub extern "C" fn zw_replay(image: &mut [u8], journal: &[u8]) -> u64
     ensures { λ r. ⌜ (r ≡ packedReplay (replayOn (now (image .entry)) (now (journal .entry)))) × (now (image .exit) ≡ replayOn (now (image .entry)) (now (journal .entry)) .image) ⌝ }
 {
     let done = replay(image, journal);
-    let steps = (done.steps as u64) % STEPS;
-    done.refusal as u64 + 256 * steps
+    done.refusal as u64 + 256 * (done.steps as u64)
 }
 
 // A server's rule on its record: refusal, 1 if it answers.
