@@ -5,7 +5,8 @@ use borrow.Author.Needs.{needs}
 use Rattle.protocol.specs.Worlds.{bad}
 use Rattle.codec.specs.Images.{decode}
 use Rattle.protocol.specs.Tools.{countTo}
-use Rattle.image.specs.Loops.{count-start, count-more, count-most}
+use Rattle.values.specs.Bits.{count-le}
+use Rattle.image.specs.Loops.{count-start, count-more}
 use Rattle.image.proofs.premise.bad_servers.Statement.{statement}
 use Rattle.image.proofs.premise.bad_servers.Tie as tie
 
@@ -32,7 +33,7 @@ add-n : tie.Need-add-n Inv-loop μ-loop
 add-n c =
     let a = c .before .before .before .before .args in
     let l = c .before .before .loop in
-    omega (arith, count-most (bad (decode (a .image .now)) (a .t)) (l .k + 1), count-more (bad (decode (a .image .now)) (a .t)) (l .k), c .bad-server .ensures)
+    omega (arith, count-le (bad (decode (a .image .now)) (a .t)) (l .k + 1), count-more (bad (decode (a .image .now)) (a .t)) (l .k), c .bad-server .ensures)
 
 add-k : tie.Need-add-k Inv-loop μ-loop
 add-k c = search needs
