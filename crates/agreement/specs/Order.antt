@@ -29,7 +29,7 @@ use Rattle.agreement.specs.Sorting.{filter, in-filter, filter-in, filter
 use Rattle.agreement.specs.Invariants.{Origin, blank, from}
 use Rattle.agreement.specs.Carried.{Trusted, Held, Read, Seen, sees}
 use Rattle.agreement.specs.Operations.{Wrote, Done, Fits, Earlier, Some, Story}
-use Rattle.agreement.specs.Precedence.{_≺_, count, writer, Level, ≺-not, ≺-≼, level-≼, level-back, Key, Precedes, by-stamp, by-kind, by-read, precedes-trans, precedes-self, compared, precedes-≼, precedes-≺}
+use Rattle.agreement.specs.Precedence.{_≺_, count, writer, Level, ≺-not, ≺-≼, level-≼, Key, Precedes, by-stamp, by-kind, by-read, precedes-trans, precedes-self, compared, precedes-≼, precedes-≺}
 use Rattle.agreement.specs.Legal.{Stand, Source, held, Asks, legal, equal-reads}
 
 -- entries that agree in every field are one

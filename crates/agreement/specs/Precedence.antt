@@ -46,9 +46,6 @@ pub ≺-≼ : {a b : Entry} → a ≺ b → a ≼ b
 pub level-≼ : {a b : Entry} → Level a b → a ≼ b
 level-≼ l = by-writer (l .count) (omega (arith, l .writer))
 
-pub level-back : {a b : Entry} → Level a b → Level b a
-level-back l = record { count = sym (l .count); writer = sym (l .writer) }
-
 -- what an operation is ordered by
 pub record Key : Type 0 where
   pub entry : Entry

@@ -7,6 +7,7 @@ use protocol::Message;
 use protocol::MessageNumber;
 use protocol::Phase;
 use protocol::Server;
+use protocol::ViewNumber;
 use values::entries;
 use values::sizes;
 ghost use mathlib.Core.Path.{_≡_};
@@ -65,16 +66,16 @@ fn sender_tag(kind: u8, sender: u8) -> bool
 }
 
 // The view of a message: 0 for READ and WRITE, else 1 to 32.
-fn view_tag(kind: u8, t: u8) -> bool
-    ensures { λ r. ⌜ r ≡ viewTag kind t ⌝ }
+fn view_tag(kind: u8, t: ViewNumber) -> bool
+    ensures { λ r. ⌜ r ≡ viewTag kind (t .0) ⌝ }
 {
     if kind <= 2 {
-        return t == 0;
+        return t.0 == 0;
     }
-    if t < 1 {
+    if t.0 < 1 {
         return false;
     }
-    t <= 32
+    t.0 <= 32
 }
 
 // The request of an answer is a message's number; any other message is not taken, and its request is 0.
@@ -142,7 +143,7 @@ pub fn message_in_range(m: Message) -> bool
     if !sender_ok {
         return false;
     }
-    let view_ok = view_tag(kind, view.0);
+    let view_ok = view_tag(kind, view);
     if !view_ok {
         return false;
     }
@@ -241,18 +242,18 @@ pub fn client_in_range(c: Client) -> bool
 }
 
 // While ending the newest view is below 32, and the END number is a message's.
-fn end_fits(newest: u8, n: MessageNumber) -> bool
-    ensures { λ r. ⌜ r ≡ endFits newest (n .0) ⌝ }
+fn end_fits(newest: ViewNumber, n: MessageNumber) -> bool
+    ensures { λ r. ⌜ r ≡ endFits (newest .0) (n .0) ⌝ }
 {
-    if 32 <= newest {
+    if 32 <= newest.0 {
         return false;
     }
     number_fits(n)
 }
 
 // The administrator's END, if it sent one.
-fn ending_in_range(newest: u8, e: Ending) -> bool
-    ensures { λ r. ⌜ r ≡ endingInRange newest e ⌝ }
+fn ending_in_range(newest: ViewNumber, e: Ending) -> bool
+    ensures { λ r. ⌜ r ≡ endingInRange (newest .0) e ⌝ }
 {
     match e {
         Ending::Settled => true,
@@ -272,5 +273,5 @@ pub fn administrator_in_range(a: Administrator) -> bool
     if 32 < newest.0 {
         return false;
     }
-    ending_in_range(newest.0, ending)
+    ending_in_range(newest, ending)
 }

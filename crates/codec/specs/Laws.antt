@@ -1,7 +1,6 @@
 -- The laws of worlds and their images: a record of the image is that of the world, and a record put into the image is put into
 -- the world. Assumes nothing.
 use mathlib.Core.Path.{_≡_, refl, sym, ap, _∙_}
-use mathlib.Core.Logic.{⊎-elim}
 use mathlib.Core.List.{List, [], _∷_, _++_, append-assoc, append-nil}
 use Prim.Native.Nat.{ℕ, zero, suc, _+_, _*_, _≤_, _<_, _^_}
 use native.Mathlib.Omega.{arith}
@@ -14,7 +13,7 @@ use Rattle.protocol.specs.declared.Message.{Message}
 use Rattle.protocol.specs.Sizes.{clients, servers, views, messages}
 use Rattle.protocol.specs.Worlds.{World, view, server, client, message, withView, withServer, withClient, withMessage, withAdministrator, send, listTo, noView, noServer, noClient, noMessage}
 use Rattle.codec.specs.Layout.{imageSize, headerWidth, viewsAt, serversAt, clientsAt, messagesAt, viewPlace, serverPlace, clientPlace, messagePlace, viewWidth, serverWidth, clientWidth, messageWidth}
-use Rattle.codec.specs.Lists.{part, put, flat, length-flat, part-group, put-group, part-number, put-number, length-replace, length-listTo, nth-listTo, listTo-nth, getD-cons, getD-set, nth-replace}
+use Rattle.codec.specs.Lists.{part, put, flat, length-flat, part-group, put-group, part-number, put-number, length-replace, length-listTo, nth-listTo, listTo-nth, getD-cons}
 use Rattle.codec.specs.Bytes.{half-le16}
 use Rattle.codec.specs.Records.{headerBytes, viewBytes, serverBytes, clientBytes, messageBytes, administratorBytes, viewOf, serverOf, clientOf, messageOf, length-headerBytes, length-viewBytes, length-serverBytes, length-clientBytes, length-messageBytes, viewOf-bytes, serverOf-bytes, clientOf-bytes, messageOf-bytes, administratorOf-bytes, ViewFits, ServerFits, ClientFits, MessageFits, AdministratorFits}
 use Rattle.codec.specs.Places.{usedAt, putUsed, administratorAt, putAdministrator, viewAt, putView, serverAt, putServer, clientAt, putClient, messageAt, putMessage}
@@ -298,107 +297,6 @@ module _ (w : World) (h : Full w) where
   unfolding withAdministrator
   full-administrator a = record { view = h .view; server = h .server; client = h .client; message = h .message }
 
-  pub full-used : (n : ℕ) → Full (withUsed w n)
-  unfolding withUsed
-  full-used n = record { view = h .view; server = h .server; client = h .client; message = h .message }
-
   pub full-send : (m : Message) → Full (send w m)
   unfolding send
   full-send m = record { view = h .view; server = h .server; client = h .client; message = length-set (w .messageList) (w .used + 1) m ∙ h .message }
-
-module _ (w : World) (h : Storable w) where
-  pub storable-view : (t : ℕ) (v : View) → ViewFits v → Storable (withView w t v)
-  unfolding withView view server client message
-  storable-view t v f =
-      record {
-        full = full-view w (h .full) t v;
-        used = h .used;
-        administrator = h .administrator;
-        view = λ k a b.
-            ⊎-elim (λ e. rw e f) (λ e. rw e (h .view k a b)) (nth-replace (w .viewList) t k v noView a (omega (arith, h .full .view)));
-        server = h .server;
-        client = h .client;
-        message = h .message;
-      }
-
-  pub storable-server : (s : ℕ) (v : Server) → ServerFits v → Storable (withServer w s v)
-  unfolding withServer view server client message
-  storable-server s v f =
-      record {
-        full = full-server w (h .full) s v;
-        used = h .used;
-        administrator = h .administrator;
-        view = h .view;
-        server = λ k a b.
-            ⊎-elim (λ e. rw e f) (λ e. rw e (h .server k a b)) (nth-replace (w .serverList) s k v noServer a (omega (arith, h .full .server)));
-        client = h .client;
-        message = h .message;
-      }
-
-  pub storable-client : (c : ℕ) (v : Client) → ClientFits v → Storable (withClient w c v)
-  unfolding withClient view server client message
-  storable-client c v f =
-      record {
-        full = full-client w (h .full) c v;
-        used = h .used;
-        administrator = h .administrator;
-        view = h .view;
-        server = h .server;
-        client = λ k a b.
-            ⊎-elim (λ e. rw e f) (λ e. rw e (h .client k a b)) (nth-replace (w .clientList) c k v noClient a (omega (arith, h .full .client)));
-        message = h .message;
-      }
-
-  pub storable-message : (n : ℕ) (v : Message) → MessageFits v → Storable (withMessage w n v)
-  unfolding withMessage view server client message
-  storable-message n v f =
-      record {
-        full = full-message w (h .full) n v;
-        used = h .used;
-        administrator = h .administrator;
-        view = h .view;
-        server = h .server;
-        client = h .client;
-        message = λ k b.
-            ⊎-elim (λ e. rw e f) (λ e. rw e (h .message k b)) (getD-set (w .messageList) n k v noMessage (omega (arith, h .full .message)));
-      }
-
-  pub storable-administrator : (a : Administrator) → AdministratorFits a → Storable (withAdministrator w a)
-  unfolding withAdministrator view server client message
-  storable-administrator a f =
-      record {
-        full = full-administrator w (h .full) a;
-        used = h .used;
-        administrator = f;
-        view = h .view;
-        server = h .server;
-        client = h .client;
-        message = h .message;
-      }
-
-  pub storable-used : (n : ℕ) → n < 2 ^ 16 → Storable (withUsed w n)
-  unfolding withUsed view server client message
-  storable-used n f =
-      record {
-        full = full-used w (h .full) n;
-        used = f;
-        administrator = h .administrator;
-        view = h .view;
-        server = h .server;
-        client = h .client;
-        message = h .message;
-      }
-
-  pub storable-send : (m : Message) → MessageFits m → w .used < messages → Storable (send w m)
-  unfolding send view server client message
-  storable-send m f l =
-      record {
-        full = full-send w (h .full) m;
-        used = omega arith;
-        administrator = h .administrator;
-        view = h .view;
-        server = h .server;
-        client = h .client;
-        message = λ k b.
-            ⊎-elim (λ e. rw e f) (λ e. rw e (h .message k b)) (getD-set (w .messageList) (w .used + 1) k m noMessage (omega (arith, h .full .message)));
-      }

@@ -1,6 +1,5 @@
 -- A part of a list, a list with a part replaced, and records of one width one after another. Assumes nothing.
 use mathlib.Core.Path.{_≡_, refl, sym, ap, _∙_}
-use mathlib.Core.Logic.{_⊎_, inl, inr}
 use mathlib.Core.List.{List, [], _∷_, _++_, append-assoc}
 use Prim.Native.Nat.{ℕ, zero, suc, _+_, _*_, _-_, _≤_, _<_}
 use native.Mathlib.Nat.{not-suc-le-zero, le-of-suc-le-suc, add-sub-cancel-left, zero-mul, suc-mul, mul-comm, add-zero, add-assoc}
@@ -26,10 +25,6 @@ flat f (x ∷ xs) = f x ++ flat f xs
 pred-suc : (k : ℕ) → suc k - 1 ≡ k
 pred-suc k = omega arith
 
-pub length-put : (l : List ℕ) (at : ℕ) (vs : List ℕ) → at + length vs ≤ length l → length (put l at vs) ≡ length l
-unfolding put
-length-put l at vs h = simp (length-append, length-take, length-drop) (omega arith)
-
 pub length-part : (l : List ℕ) (at n : ℕ) → at + n ≤ length l → length (part l at n) ≡ n
 unfolding part
 length-part l at n h = simp (length-take, length-drop) (omega arith)
@@ -41,13 +36,6 @@ getD-part l at n i h = rw (getD-take, getD-drop)
 pub part-add : (l : List ℕ) (at n m : ℕ) → part l at (n + m) ≡ part l at n ++ part l (at + n) m
 unfolding part
 part-add l at n m = take-add n m (drop at l) ∙ ap (λ (r : List ℕ). take n (drop at l) ++ take m r) (drop-drop n at l)
-
--- what was put is read back
-pub part-put : (l : List ℕ) (at : ℕ) (vs : List ℕ) → at ≤ length l → part (put l at vs) at (length vs) ≡ vs
-unfolding part put
-part-put l zero vs h = take-at vs (drop (length vs) l) (length vs) refl
-part-put [] (suc at) vs h = absurd (not-suc-le-zero h)
-part-put (x ∷ l) (suc at) vs h = part-put l at vs (le-of-suc-le-suc h)
 
 -- ---- two lists joined
 
@@ -153,14 +141,6 @@ pub pasted : (l : List ℕ) (at : ℕ) (vs : List ℕ) → paste l at vs (length
 unfolding put
 pasted l at vs = rw (take-length, drop-drop (length vs) at l) (simp append-assoc)
 
--- an element after a store is the one stored or the one before
-pub getD-set : {A : Type 0} (xs : List A) (j k : ℕ) (v d : A) → k < length xs → (getD (set xs j v) k d ≡ v) ⊎ (getD (set xs j v) k d ≡ getD xs k d)
-getD-set [] j k v d m = absurd (not-suc-le-zero m)
-getD-set (x ∷ xs) zero zero v d m = inl refl
-getD-set (x ∷ xs) zero (suc k) v d m = inr refl
-getD-set (x ∷ xs) (suc j) zero v d m = inr refl
-getD-set (x ∷ xs) (suc j) (suc k) v d m = getD-set xs j k v d (le-of-suc-le-suc m)
-
 -- ---- groups that are numbered from 1
 
 module _ {A : Type 0} (f : A → List ℕ) (w : ℕ) (wide : (x : A) → length (f x) ≡ w) where
@@ -186,13 +166,6 @@ pub getD-cons : {A : Type 0} (x : A) (xs : List A) (k : ℕ) (d : A) → 1 ≤ k
 unfolding nth
 getD-cons x xs zero d l = absurd (not-suc-le-zero l)
 getD-cons x xs (suc k) d l = refl
-
-pub nth-replace : {A : Type 0} (xs : List A) (j k : ℕ) (v d : A) → 1 ≤ k → k ≤ length xs
-    → (nth (replace xs j v) k d ≡ v) ⊎ (nth (replace xs j v) k d ≡ nth xs k d)
-unfolding nth replace
-nth-replace xs j zero v d l m = absurd (not-suc-le-zero l)
-nth-replace xs zero (suc k) v d l m = inr refl
-nth-replace xs (suc j) (suc k) v d l m = getD-set xs j k v d m
 
 -- the list of g 1 to g n
 pub length-listTo : {A : Type 0} (g : ℕ → A) (n : ℕ) → length (listTo g n) ≡ n

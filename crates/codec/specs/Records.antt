@@ -20,7 +20,7 @@ use Rattle.protocol.specs.Tools.{if, bit}
 use Rattle.protocol.specs.Entries.{entry, countOf, writerOf}
 use Rattle.protocol.specs.Clients.{number, requestOf, endOf, isEnding}
 use Rattle.protocol.specs.Runs.{u16At, u32At, stepOf}
-use Rattle.codec.specs.Layout.{version, entryWidth, headerWidth, viewWidth, serverWidth, clientWidth, messageWidth, administratorWidth}
+use Rattle.codec.specs.Layout.{version, entryWidth, headerWidth, viewWidth, serverWidth, clientWidth, messageWidth}
 use Rattle.codec.specs.Lists.{part}
 use Rattle.codec.specs.Bytes.{le16, le32, half-le16, word-le32}
 
@@ -110,10 +110,6 @@ bytesOfStep st =
 
 -- ---- the widths
 
-pub length-entryBytes : (e : Entry) → length (entryBytes e) ≡ entryWidth
-unfolding entryBytes
-length-entryBytes e = refl
-
 pub length-viewBytes : (v : View) → length (viewBytes v) ≡ viewWidth
 unfolding viewBytes
 length-viewBytes v = refl
@@ -129,10 +125,6 @@ length-clientBytes c = refl
 pub length-messageBytes : (m : Message) → length (messageBytes m) ≡ messageWidth
 unfolding messageBytes messageHead entryBytes
 length-messageBytes m = refl
-
-pub length-administratorBytes : (a : Administrator) → length (administratorBytes a) ≡ administratorWidth
-unfolding administratorBytes
-length-administratorBytes a = refl
 
 pub length-headerBytes : (n : ℕ) (a : Administrator) → length (headerBytes n a) ≡ headerWidth
 unfolding headerBytes administratorBytes
@@ -173,10 +165,6 @@ pub record StepFits (st : Step) : Type 0 where
 flag-back : (b : Bool) → flagOf (bit b) ≡ b
 flag-back true = refl
 flag-back false = refl
-
-pub entryOf-bytes : (e : Entry) → EntryFits e → entryOf (entryBytes e) ≡ e
-unfolding entryOf entryBytes
-entryOf-bytes e h = simp (word-le32 _ (h .count), word-le32 _ (h .value))
 
 pub viewOf-bytes : (v : View) → ViewFits v → viewOf (viewBytes v) ≡ v
 unfolding viewOf viewBytes

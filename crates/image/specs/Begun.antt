@@ -1,19 +1,17 @@
 -- The fresh world is well formed, and its image readable. Assumes nothing.
-use mathlib.Core.Path.{_≡_, refl, sym, ap, _∙_}
+use mathlib.Core.Path.{_≡_, refl, ap}
 use mathlib.Core.Bool.{Bool, true, false}
-use mathlib.Core.List.{List, [], _∷_}
-use Prim.Native.Nat.{ℕ, zero, suc, _+_, _≤_, _<_}
-use native.Mathlib.Nat.{not-suc-le-zero, le-of-suc-le-suc}
+use Prim.Native.Nat.{ℕ, zero, suc, _≤_}
+use native.Mathlib.Nat.{not-suc-le-zero}
 use native.Mathlib.Omega.{arith}
-use lib.ListN.{length, getD, replicate, length-replicate}
-use lib.Dec.{leb}
+use lib.ListN.{getD, replicate, length-replicate}
 use borrow.Author.Tests.{lt-leb}
 use Rattle.protocol.specs.declared.View.{View}
 use Rattle.protocol.specs.Tools.{if, nth, holds, bitOf, allTo}
 use Rattle.protocol.specs.Sizes.{clients, servers, views, messages, sized}
 use Rattle.protocol.specs.Entries.{same, entryFits}
-use Rattle.protocol.specs.Worlds.{World, view, server, client, message, noView, noServer, noClient, noMessage, freshServer, freshWorld, listTo}
-use Rattle.protocol.specs.Readable.{headerFits, lastView, viewFits, serverFits, clientFits, zeroMessage, messageFits, chainFits, wellFormed}
+use Rattle.protocol.specs.Worlds.{view, server, client, message, noView, noServer, noClient, noMessage, freshServer, freshWorld}
+use Rattle.protocol.specs.Readable.{headerFits, lastView, viewFits, serverFits, clientFits, zeroMessage, messageFits, wellFormed}
 use Rattle.codec.specs.Images.{encode}
 use Rattle.codec.specs.Laws.{Full}
 use Rattle.codec.specs.Lists.{length-listTo, nth-listTo}

@@ -1,18 +1,13 @@
 -- What loops over the numbers 1 to n give. Assumes nothing.
 use mathlib.Core.Path.{_≡_, refl}
 use mathlib.Core.Bool.{Bool, true, false}
-use Prim.Native.Nat.{ℕ, zero, suc, _+_, _≤_}
+use Prim.Native.Nat.{ℕ, _+_, _≤_}
 use native.Mathlib.Numerals.{add-one}
-use native.Mathlib.Omega.{arith}
 use Rattle.protocol.specs.Tools.{bit, countTo, allTo}
 use Rattle.codec.specs.Spelling.{join}
 use Rattle.codec.specs.Whole.{all-at}
 use Rattle.image.specs.Tests.{by-test, clash}
 use Rattle.image.specs.Counts.{sumTo}
-
-bit-le : (b : Bool) → bit b ≤ 1
-bit-le true = omega arith
-bit-le false = omega arith
 
 module _ (p : ℕ → Bool) where
   pub count-start : countTo p 0 ≡ 0
@@ -22,11 +17,6 @@ module _ (p : ℕ → Bool) where
   pub count-more : (n : ℕ) → countTo p (n + 1) ≡ countTo p n + bit (p (n + 1))
   unfolding countTo
   count-more n = rw add-one
-
-  pub count-most : (n : ℕ) → countTo p n ≤ n
-  unfolding countTo
-  count-most zero = omega arith
-  count-most (suc n) = let ih = count-most n in omega (arith, bit-le (p (suc n)))
 
   pub all-start : allTo p 0 ≡ true
   unfolding allTo

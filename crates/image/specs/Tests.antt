@@ -44,10 +44,6 @@ pass e f = rw e f
 pub other : {a b r : Bool} → a ≡ false → r ≡ b → r ≡ a || b
 other e f = rw e f
 
-pub last : (b : Bool) → b && true ≡ b
-last true = refl
-last false = refl
-
 pub any-true : (a b : Bool) → (a || true) || b ≡ true
 any-true true b = refl
 any-true false b = refl

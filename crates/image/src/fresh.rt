@@ -25,11 +25,11 @@ use protocol::ViewNumber;
 use values::sizes::holds;
 use values::sizes::sized;
 
-fn server_of(view: u8, keys: u32) -> Server
-    ensures { λ r. ⌜ r ≡ idleServer view keys ⌝ }
+fn server_of(view: ViewNumber, keys: u32) -> Server
+    ensures { λ r. ⌜ r ≡ idleServer (view .0) keys ⌝ }
 {
     Server {
-        view: ViewNumber(view),
+        view: view,
         faulty: false,
         keys: keys,
         entry: Entry {
@@ -43,14 +43,14 @@ fn server_of(view: u8, keys: u32) -> Server
 }
 
 // "Members hold view 1, key 1 and the empty entry"
-fn fresh_server(members: u32, s: u8) -> Server
-    requires { ⌜ (1 ≤ s) × (s ≤ 32) ⌝ }
-    ensures { λ r. ⌜ r ≡ freshServer members s ⌝ }
+fn fresh_server(members: u32, s: ServerNumber) -> Server
+    requires { ⌜ (1 ≤ s .0) × (s .0 ≤ 32) ⌝ }
+    ensures { λ r. ⌜ r ≡ freshServer members (s .0) ⌝ }
 {
-    if holds(members, s) {
-        return server_of(1, 1);
+    if holds(members, s.0) {
+        return server_of(ViewNumber(1), 1);
     }
-    server_of(0, 0)
+    server_of(ViewNumber(0), 0)
 }
 
 fn store_servers(image: &mut [u8], members: u32)
@@ -58,8 +58,9 @@ fn store_servers(image: &mut [u8], members: u32)
     ensures { λ _. ⌜ now (image .exit) ≡ seeded (now (image .entry)) members 32 ⌝ }
 {
     for k in 0..SERVERS {
-        let v = fresh_server(members, k + 1);
-        store_server(image, ServerNumber(k + 1), v);
+        let s = ServerNumber(k + 1);
+        let v = fresh_server(members, s);
+        store_server(image, s, v);
     }
 }
 

@@ -27,21 +27,21 @@ pub enum Report {
 }
 
 // "a faulty server counts against view t as long as it holds key t"
-fn bad_server(image: &[u8], t: u8, s: ServerNumber) -> u32
-    requires { ⌜ (length (now image) ≡ imageSize) × (1 ≤ t) × (t ≤ views) × (1 ≤ s .0) × (s .0 ≤ servers) ⌝ }
-    ensures { λ r. ⌜ r ≡ bit (bad (decode (now (image .entry))) t (s .0)) ⌝ }
+fn bad_server(image: &[u8], t: ViewNumber, s: ServerNumber) -> u32
+    requires { ⌜ (length (now image) ≡ imageSize) × (1 ≤ t .0) × (t .0 ≤ views) × (1 ≤ s .0) × (s .0 ≤ servers) ⌝ }
+    ensures { λ r. ⌜ r ≡ bit (bad (decode (now (image .entry))) (t .0) (s .0)) ⌝ }
 {
     let v = load_server(image, s);
     if !v.faulty {
         return 0;
     }
-    let held = holds(v.keys, t);
+    let held = holds(v.keys, t.0);
     held as u32
 }
 
-fn bad_servers(image: &[u8], t: u8) -> u32
-    requires { ⌜ (length (now image) ≡ imageSize) × (1 ≤ t) × (t ≤ views) ⌝ }
-    ensures { λ r. ⌜ r ≡ countTo (bad (decode (now (image .entry))) t) servers ⌝ }
+fn bad_servers(image: &[u8], t: ViewNumber) -> u32
+    requires { ⌜ (length (now image) ≡ imageSize) × (1 ≤ t .0) × (t .0 ≤ views) ⌝ }
+    ensures { λ r. ⌜ r ≡ countTo (bad (decode (now (image .entry))) (t .0)) servers ⌝ }
 {
     let mut n = 0u32;
     for k in 0..SERVERS {
@@ -50,22 +50,22 @@ fn bad_servers(image: &[u8], t: u8) -> u32
     n
 }
 
-fn view_holds(image: &[u8], t: u8) -> bool
-    requires { ⌜ (length (now image) ≡ imageSize) × (1 ≤ t) × (t ≤ views) ⌝ }
-    ensures { λ r. ⌜ r ≡ within (decode (now (image .entry))) t ⌝ }
+fn view_holds(image: &[u8], t: ViewNumber) -> bool
+    requires { ⌜ (length (now image) ≡ imageSize) × (1 ≤ t .0) × (t .0 ≤ views) ⌝ }
+    ensures { λ r. ⌜ r ≡ within (decode (now (image .entry))) (t .0) ⌝ }
 {
     let n = bad_servers(image, t);
-    let v = load_view(image, ViewNumber(t));
+    let v = load_view(image, t);
     n <= v.f as u32
 }
 
 // "The premise holds if no view t has more than f(t) such servers"
-fn premise_holds(image: &[u8], newest: u8) -> bool
-    requires { ⌜ (length (now image) ≡ imageSize) × (newest ≤ views) × (newest ≡ administratorAt (now image) .newest .0) ⌝ }
+fn premise_holds(image: &[u8], newest: ViewNumber) -> bool
+    requires { ⌜ (length (now image) ≡ imageSize) × (newest .0 ≤ views) × (newest .0 ≡ administratorAt (now image) .newest .0) ⌝ }
     ensures { λ r. ⌜ r ≡ premiseOf (decode (now (image .entry))) ⌝ }
 {
-    for k in 0..newest {
-        if !view_holds(image, k + 1) {
+    for k in 0..newest.0 {
+        if !view_holds(image, ViewNumber(k + 1)) {
             return false;
         }
     }
@@ -84,8 +84,7 @@ pub fn premise(image: &[u8]) -> Report
     }
     let a = load_administrator(image);
     let newest = a.newest;
-    let t = newest.0;
-    if premise_holds(image, t) {
+    if premise_holds(image, newest) {
         return Report::Holds;
     }
     Report::Fails

@@ -55,8 +55,8 @@ fn header_ok(image: &[u8]) -> bool
     header_fits(image)
 }
 
-fn view_ok(image: &[u8], t: ViewNumber, last: u8) -> bool
-    requires { ⌜ (length (now image) ≡ imageSize) × (1 ≤ t .0) × (t .0 ≤ views) × (last ≡ lastOf (administratorAt (now image))) ⌝ }
+fn view_ok(image: &[u8], t: ViewNumber, last: ViewNumber) -> bool
+    requires { ⌜ (length (now image) ≡ imageSize) × (1 ≤ t .0) × (t .0 ≤ views) × (last .0 ≡ lastOf (administratorAt (now image))) ⌝ }
     ensures { λ r. ⌜ r ≡ viewOk (now (image .entry)) (t .0) ⌝ }
 {
     let n = t.0;
@@ -69,15 +69,15 @@ fn view_ok(image: &[u8], t: ViewNumber, last: u8) -> bool
 }
 
 // The last view that is not zero.
-fn last_of(a: Administrator) -> u8
+fn last_of(a: Administrator) -> ViewNumber
     requires { ⌜ a .newest .0 ≤ views ⌝ }
-    ensures { λ r. ⌜ r ≡ lastOf a ⌝ }
+    ensures { λ r. ⌜ r .0 ≡ lastOf a ⌝ }
 {
     let newest = a.newest;
     let ending = a.ending;
     match ending {
-        Ending::Settled => newest.0,
-        Ending::EndSent(_) => newest.0 + 1,
+        Ending::Settled => newest,
+        Ending::EndSent(_) => ViewNumber(newest.0 + 1),
     }
 }
 
@@ -94,8 +94,8 @@ fn views_ok(image: &[u8], a: Administrator) -> bool
     true
 }
 
-fn server_ok(image: &[u8], s: ServerNumber, newest: u8) -> bool
-    requires { ⌜ Open (now image) × (1 ≤ s .0) × (s .0 ≤ servers) × (newest ≡ administratorAt (now image) .newest .0) ⌝ }
+fn server_ok(image: &[u8], s: ServerNumber, newest: ViewNumber) -> bool
+    requires { ⌜ Open (now image) × (1 ≤ s .0) × (s .0 ≤ servers) × (newest .0 ≡ administratorAt (now image) .newest .0) ⌝ }
     ensures { λ r. ⌜ r ≡ serverOk (now (image .entry)) (s .0) ⌝ }
 {
     let n = s.0;
@@ -107,8 +107,8 @@ fn server_ok(image: &[u8], s: ServerNumber, newest: u8) -> bool
     server_fits(v, newest)
 }
 
-fn servers_ok(image: &[u8], newest: u8) -> bool
-    requires { ⌜ Open (now image) × (newest ≡ administratorAt (now image) .newest .0) ⌝ }
+fn servers_ok(image: &[u8], newest: ViewNumber) -> bool
+    requires { ⌜ Open (now image) × (newest .0 ≡ administratorAt (now image) .newest .0) ⌝ }
     ensures { λ r. ⌜ r ≡ allTo (serverOk (now (image .entry))) servers ⌝ }
 {
     for k in 0..SERVERS {
@@ -154,8 +154,8 @@ fn first_ok(image: &[u8]) -> bool
     zero_message(m)
 }
 
-fn message_ok(image: &[u8], n: MessageNumber, used: u16, newest: u8) -> bool
-    requires { ⌜ Open (now image) × (n .0 ≤ messages) × (used ≡ usedAt (now image)) × (newest ≡ administratorAt (now image) .newest .0) ⌝ }
+fn message_ok(image: &[u8], n: MessageNumber, used: u16, newest: ViewNumber) -> bool
+    requires { ⌜ Open (now image) × (n .0 ≤ messages) × (used ≡ usedAt (now image)) × (newest .0 ≡ administratorAt (now image) .newest .0) ⌝ }
     ensures { λ r. ⌜ r ≡ messageOk (now (image .entry)) (n .0) ⌝ }
 {
     let k = n.0;
@@ -166,8 +166,8 @@ fn message_ok(image: &[u8], n: MessageNumber, used: u16, newest: u8) -> bool
     message_fits(image, n, used, newest)
 }
 
-fn messages_ok(image: &[u8], newest: u8) -> bool
-    requires { ⌜ Open (now image) × (newest ≡ administratorAt (now image) .newest .0) ⌝ }
+fn messages_ok(image: &[u8], newest: ViewNumber) -> bool
+    requires { ⌜ Open (now image) × (newest .0 ≡ administratorAt (now image) .newest .0) ⌝ }
     ensures { λ r. ⌜ r ≡ messagesOk (now (image .entry)) ⌝ }
 {
     if !first_ok(image) {
@@ -194,17 +194,16 @@ pub fn readable(image: &[u8]) -> bool
     }
     let a = load_administrator(image);
     let newest = a.newest;
-    let t = newest.0;
     if !views_ok(image, a) {
         return false;
     }
-    if !servers_ok(image, t) {
+    if !servers_ok(image, newest) {
         return false;
     }
     if !clients_ok(image) {
         return false;
     }
-    if !messages_ok(image, t) {
+    if !messages_ok(image, newest) {
         return false;
     }
     chains_fit(image)

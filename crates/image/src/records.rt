@@ -20,11 +20,11 @@ use values::sizes::bit_of;
 use values::sizes::sized;
 
 // "views obey the size rule"; "Beyond newest (newest+1 while ending) all zero."
-pub fn view_fits(v: View, t: ViewNumber, last: u8) -> bool
-    ensures { λ r. ⌜ r ≡ viewRule last (t .0) v ⌝ }
+pub fn view_fits(v: View, t: ViewNumber, last: ViewNumber) -> bool
+    ensures { λ r. ⌜ r ≡ viewRule (last .0) (t .0) v ⌝ }
 {
     let n = t.0;
-    if n <= last {
+    if n <= last.0 {
         return sized(v);
     }
     if v.members != 0 {
@@ -34,11 +34,11 @@ pub fn view_fits(v: View, t: ViewNumber, last: u8) -> bool
 }
 
 // The keys are those of views 1 to newest.
-fn keys_within(keys: u32, newest: u8) -> bool
-    requires { ⌜ newest ≤ 32 ⌝ }
-    ensures { λ r. ⌜ r ≡ ltb keys (2 ^ newest) ⌝ }
+fn keys_within(keys: u32, newest: ViewNumber) -> bool
+    requires { ⌜ newest .0 ≤ 32 ⌝ }
+    ensures { λ r. ⌜ r ≡ ltb keys (2 ^ (newest .0)) ⌝ }
 {
-    (keys as u64) < (1u64 << newest)
+    (keys as u64) < (1u64 << newest.0)
 }
 
 // "a correct server has no key but its own view's"
@@ -57,13 +57,13 @@ fn key_fits(s: Server) -> bool
     s.keys == own
 }
 
-pub fn server_fits(s: Server, newest: u8) -> bool
-    requires { ⌜ newest ≤ 32 ⌝ }
-    ensures { λ r. ⌜ r ≡ serverRule newest s ⌝ }
+pub fn server_fits(s: Server, newest: ViewNumber) -> bool
+    requires { ⌜ newest .0 ≤ 32 ⌝ }
+    ensures { λ r. ⌜ r ≡ serverRule (newest .0) s ⌝ }
 {
     let view = s.view;
     let entry = s.entry;
-    if newest < view.0 {
+    if newest.0 < view.0 {
         return false;
     }
     if !keys_within(s.keys, newest) {
@@ -95,8 +95,8 @@ pub fn sender_fits(kind: u8, sender: u8) -> bool
 }
 
 // "view u8 (0 for 1 and 2)", else 1 to newest
-pub fn tag_fits(newest: u8, kind: u8, t: ViewNumber) -> bool
-    ensures { λ r. ⌜ r ≡ tagRule newest kind (t .0) ⌝ }
+pub fn tag_fits(newest: ViewNumber, kind: u8, t: ViewNumber) -> bool
+    ensures { λ r. ⌜ r ≡ tagRule (newest .0) kind (t .0) ⌝ }
 {
     let n = t.0;
     if kind <= WRITE {
@@ -105,7 +105,7 @@ pub fn tag_fits(newest: u8, kind: u8, t: ViewNumber) -> bool
     if n < 1 {
         return false;
     }
-    n <= newest
+    n <= newest.0
 }
 
 // "next u16 (0 in a START and an untaken answer)"

@@ -33,6 +33,7 @@ use protocol::Ending;
 use protocol::Message;
 use protocol::MessageNumber;
 use protocol::Phase;
+use protocol::ViewNumber;
 use values::entries::entry_fits;
 use values::entries::is_empty;
 use values::entries::same;
@@ -135,8 +136,8 @@ fn request_fits(image: &[u8], m: Message) -> bool
 }
 
 // A message that was sent.
-fn sent_fits(image: &[u8], m: Message, newest: u8) -> bool
-    requires { ⌜ Open (now image) × (newest ≡ administratorAt (now image) .newest .0) ⌝ }
+fn sent_fits(image: &[u8], m: Message, newest: ViewNumber) -> bool
+    requires { ⌜ Open (now image) × (newest .0 ≡ administratorAt (now image) .newest .0) ⌝ }
     ensures { λ r. ⌜ r ≡ sentFits (decode (now (image .entry))) m ⌝ }
 {
     let view = m.view;
@@ -166,8 +167,8 @@ fn sent_fits(image: &[u8], m: Message, newest: u8) -> bool
 }
 
 // "messages beyond used are zero"
-pub fn message_fits(image: &[u8], n: MessageNumber, used: u16, newest: u8) -> bool
-    requires { ⌜ Open (now image) × (n .0 ≤ messages) × (used ≡ usedAt (now image)) × (newest ≡ administratorAt (now image) .newest .0) ⌝ }
+pub fn message_fits(image: &[u8], n: MessageNumber, used: u16, newest: ViewNumber) -> bool
+    requires { ⌜ Open (now image) × (n .0 ≤ messages) × (used ≡ usedAt (now image)) × (newest .0 ≡ administratorAt (now image) .newest .0) ⌝ }
     ensures { λ r. ⌜ r ≡ messageFits (decode (now (image .entry))) (n .0) ⌝ }
 {
     let m = load_message(image, n);

@@ -13,7 +13,7 @@ use Rattle.protocol.specs.declared.Client.{Client}
 use Rattle.protocol.specs.Tools.{if}
 use Rattle.protocol.specs.Entries.{entry, countOf, writerOf}
 use Rattle.protocol.specs.Clients.{WRITES, READS}
-use Rattle.codec.specs.Lists.{put, put-put, length-put}
+use Rattle.codec.specs.Lists.{put, put-put}
 
 -- the last digits of n in base ten, as bytes, without zeros in front: as many as it has, and at most so many
 unfoldable pub digits : ℕ → ℕ → List ℕ

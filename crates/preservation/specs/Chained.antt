@@ -138,13 +138,6 @@ follow-same w v p f (suc left) (suc n) a =
     ap (λ (l : List ℕ). suc n ∷ l)
     (ap (λ (m : MessageNumber). follow v left (m .0)) (f (suc n) (and-left _ _ a)) ∙ follow-same w v p f left (message w (suc n) .next .0) (and-right (p (suc n)) _ a))
 
--- the links followed are at most those allowed
-pub follow-short : (w : World) (left n : ℕ) → length (follow w left n) ≤ left
-unfolding follow
-follow-short w zero n = omega arith
-follow-short w (suc left) zero = omega arith
-follow-short w (suc left) (suc n) = omega (arith, follow-short w left (message w (suc n) .next .0))
-
 -- a walk that needed fewer links than allowed needs no more
 pub follow-enough : (w : World) (left n : ℕ) → length (follow w left n) < left → follow w (suc left) n ≡ follow w left n
 unfolding follow

@@ -15,7 +15,8 @@ use Rattle.protocol.specs.Sizes.{servers}
 use Rattle.protocol.specs.Entries.{larger, largest, chosen}
 use Rattle.protocol.specs.Worlds.{World, message}
 use Rattle.protocol.specs.Chains.{tagged, heard, enough, shown}
-use Rattle.values.specs.Bits.{bitIn, holds-or, bit-held, count-same}
+use Rattle.protocol.specs.Laws.Bits.{holds-or}
+use Rattle.values.specs.Bits.{bitIn, bit-held, count-same}
 
 -- the answer just taken
 unfoldable pub firstAnswer : Message → Tally

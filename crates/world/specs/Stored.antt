@@ -119,8 +119,5 @@ module _ {l : List ℕ} (h : Legible l) where
 -- ---- the length stays
 
 module _ {l : List ℕ} (h : Legible l) where
-  pub size-server : (s : ℕ) → 1 ≤ s → s ≤ servers → (b : Server) → length (putServer l s b) ≡ imageSize
-  size-server s a c b = image-size (with-server (image-of h) s a c b)
-
   pub size-client : (c : ℕ) → 1 ≤ c → c ≤ clients → (b : Client) → length (putClient l c b) ≡ imageSize
   size-client c a d b = image-size (with-client (image-of h) c a d b)

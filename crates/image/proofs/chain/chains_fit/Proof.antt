@@ -7,7 +7,8 @@ use Rattle.image.specs.Tests.{pass}
 use Rattle.codec.specs.Images.{decode}
 use Rattle.image.specs.Scan.{open-used, chains-rule}
 use Rattle.protocol.specs.Tools.{countTo, allTo}
-use Rattle.image.specs.Loops.{all-start, all-more, all-fails, count-start, count-more, count-most, sum-start, sum-more}
+use Rattle.values.specs.Bits.{count-le}
+use Rattle.image.specs.Loops.{all-start, all-more, all-fails, count-start, count-more, sum-start, sum-more}
 use Rattle.image.specs.Walks.{chained-links, whole, broken, links-most}
 use Rattle.image.specs.Chains.{chainSound, links, isTaken}
 use Rattle.image.specs.Counts.{sumTo}
@@ -75,7 +76,7 @@ add-taken c =
     let a = c .before .before .before .before .before .before .before .before .before .args in
     let l = c .before .before .before .before .before .before .loop in
     let h = open-used (a .image .now) (c .before .before .before .before .before .before .before .before .before .pre) in
-    omega (arith, c .before .before .before .before .before .before .before .load-used .ensures, c .taken-bit .ensures, count-more (isTaken (decode (a .image .now))) (l .k), count-most (isTaken (decode (a .image .now))) (l .k + 1))
+    omega (arith, c .before .before .before .before .before .before .before .load-used .ensures, c .taken-bit .ensures, count-more (isTaken (decode (a .image .now))) (l .k), count-le (isTaken (decode (a .image .now))) (l .k + 1))
 
 add-k : tie.Need-add-k Inv-loop μ-loop
 add-k c = search needs

@@ -19,14 +19,11 @@ loop-holds c =
     let a = c .before .args in
     (omega arith, sym (seeded-start (a .image .now) (a .members)), c .before .pre)
 
-add-fresh-server : tie.Need-add-fresh-server Inv-loop μ-loop
-add-fresh-server c = search needs
+add-t7 : tie.Need-add-t7 Inv-loop μ-loop
+add-t7 c = search needs
 
 fresh-server-requires : tie.Need-fresh-server-requires Inv-loop μ-loop
 fresh-server-requires c κs = search needs
-
-add-t6 : tie.Need-add-t6 Inv-loop μ-loop
-add-t6 c = search needs
 
 store-server-requires : tie.Need-store-server-requires Inv-loop μ-loop
 store-server-requires c κs = search needs
@@ -63,9 +60,8 @@ store-servers-spec =
     Inv-loop
     μ-loop
     loop-holds
-    add-fresh-server
+    add-t7
     fresh-server-requires
-    add-t6
     store-server-requires
     add-k
     loop-less

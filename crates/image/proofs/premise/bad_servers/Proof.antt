@@ -5,12 +5,13 @@ use borrow.Author.Needs.{needs}
 use Rattle.protocol.specs.Worlds.{bad}
 use Rattle.codec.specs.Images.{decode}
 use Rattle.protocol.specs.Tools.{countTo}
-use Rattle.image.specs.Loops.{count-start, count-more, count-most}
+use Rattle.values.specs.Bits.{count-le}
+use Rattle.image.specs.Loops.{count-start, count-more}
 use Rattle.image.proofs.premise.bad_servers.Statement.{statement}
 use Rattle.image.proofs.premise.bad_servers.Tie as tie
 
 abbrev Inv-loop : tie.InvT-loop
-Inv-loop image t n₀ k₀ n k = (k ≤ 32) × (n ≡ countTo (bad (decode image) t) k)
+Inv-loop image t n₀ k₀ n k = (k ≤ 32) × (n ≡ countTo (bad (decode image) (t .0)) k)
 
 abbrev μ-loop : tie.MeasureT-loop
 μ-loop image t n₀ k₀ n k = 32 - k
@@ -18,7 +19,7 @@ abbrev μ-loop : tie.MeasureT-loop
 loop-holds : tie.Need-loop-holds Inv-loop μ-loop
 loop-holds c =
     let a = c .before .args in
-    (omega arith, sym (count-start (bad (decode (a .image .now)) (a .t))))
+    (omega arith, sym (count-start (bad (decode (a .image .now)) (a .t .0))))
 
 add-t7 : tie.Need-add-t7 Inv-loop μ-loop
 add-t7 c = search needs
@@ -32,7 +33,7 @@ add-n : tie.Need-add-n Inv-loop μ-loop
 add-n c =
     let a = c .before .before .before .before .args in
     let l = c .before .before .loop in
-    omega (arith, count-most (bad (decode (a .image .now)) (a .t)) (l .k + 1), count-more (bad (decode (a .image .now)) (a .t)) (l .k), c .bad-server .ensures)
+    omega (arith, count-le (bad (decode (a .image .now)) (a .t .0)) (l .k + 1), count-more (bad (decode (a .image .now)) (a .t .0)) (l .k), c .bad-server .ensures)
 
 add-k : tie.Need-add-k Inv-loop μ-loop
 add-k c = search needs
@@ -44,14 +45,14 @@ loop-again : tie.Need-loop-again Inv-loop μ-loop
 loop-again c =
     let a = c .before .before .before .before .args in
     let l = c .before .before .loop in
-    (omega arith, sym (count-more (bad (decode (a .image .now)) (a .t)) (l .k) ∙ (let e = l .inv .1 in let f = c .bad-server .ensures in omega arith)))
+    (omega arith, sym (count-more (bad (decode (a .image .now)) (a .t .0)) (l .k) ∙ (let e = l .inv .1 in let f = c .bad-server .ensures in omega arith)))
 
 returns : tie.Need-returns Inv-loop μ-loop
 returns c =
     let a = c .before .before .before .args in
     let l = c .before .loop in
     let e : l .k ≡ 32 = omega arith in
-    l .inv .1 ∙ ap (countTo (bad (decode (a .image .now)) (a .t))) e
+    l .inv .1 ∙ ap (countTo (bad (decode (a .image .now)) (a .t .0))) e
 
 pub bad-servers-spec : {M : Type 1} → statement M
 bad-servers-spec =

@@ -4,7 +4,6 @@ use Prim.Native.Nat.{_+_, _-_, _≤_}
 use native.Mathlib.Omega.{arith}
 use borrow.Author.Tests.{not-true, not-false}
 use borrow.Author.Needs.{needs}
-use Rattle.protocol.specs.Worlds.{newest}
 use Rattle.codec.specs.Images.{decode}
 use Rattle.protocol.specs.Tools.{allTo}
 use Rattle.image.specs.Loops.{all-start, all-more, all-fails}
@@ -13,16 +12,16 @@ use Rattle.image.proofs.premise.premise_holds.Statement.{statement}
 use Rattle.image.proofs.premise.premise_holds.Tie as tie
 
 abbrev Inv-loop : tie.InvT-loop
-Inv-loop image newest k₀ k = (k ≤ newest) × (allTo (within (decode image)) k ≡ true)
+Inv-loop image k₀ last k = (k ≤ last) × (allTo (within (decode image)) k ≡ true)
 
 abbrev μ-loop : tie.MeasureT-loop
-μ-loop image newest k₀ k = newest - k
+μ-loop image k₀ last k = last - k
 
 loop-holds : tie.Need-loop-holds Inv-loop μ-loop
 loop-holds c = (omega arith, all-start (within (decode (c .before .args .image .now))))
 
-add-view-holds : tie.Need-add-view-holds Inv-loop μ-loop
-add-view-holds c = search needs
+add-t6 : tie.Need-add-t6 Inv-loop μ-loop
+add-t6 c = search needs
 
 view-holds-requires : tie.Need-view-holds-requires Inv-loop μ-loop
 view-holds-requires c κs = (c .before .before .before .pre .0, omega arith, omega arith)
@@ -30,7 +29,7 @@ view-holds-requires c κs = (c .before .before .before .pre .0, omega arith, ome
 returns : tie.Need-returns Inv-loop μ-loop
 returns c =
     let a = c .before .before .before .before .before .args in
-    rw (premise-rule (a .image .now) (a .newest) (c .before .before .before .before .before .pre .2)) (sym (all-fails (within (decode (a .image .now))) (a .newest) (c .before .before .before .loop .k + 1) (omega arith) (omega arith) (sym (c .before .view-holds .ensures) ∙ not-true _ (c .if1 .taken))))
+    rw (premise-rule (a .image .now) (a .newest .0) (c .before .before .before .before .before .pre .2)) (sym (all-fails (within (decode (a .image .now))) (a .newest .0) (c .before .before .before .loop .k + 1) (omega arith) (omega arith) (sym (c .before .view-holds .ensures) ∙ not-true _ (c .if1 .taken))))
 
 add-k : tie.Need-add-k Inv-loop μ-loop
 add-k c = search needs
@@ -47,8 +46,8 @@ returns-2 : tie.Need-returns-2 Inv-loop μ-loop
 returns-2 c =
     let a = c .before .before .before .args in
     let l = c .before .loop in
-    let e : l .k ≡ a .newest = omega arith in
-    rw (premise-rule (a .image .now) (a .newest) (c .before .before .before .pre .2), ← e) (sym (l .inv .1))
+    let e : l .k ≡ a .newest .0 = omega arith in
+    rw (premise-rule (a .image .now) (a .newest .0) (c .before .before .before .pre .2), ← e) (sym (l .inv .1))
 
 pub premise-holds-spec : {M : Type 1} → statement M
 premise-holds-spec =
@@ -57,7 +56,7 @@ premise-holds-spec =
     Inv-loop
     μ-loop
     loop-holds
-    add-view-holds
+    add-t6
     view-holds-requires
     returns
     add-k

@@ -16,7 +16,7 @@ returns : tie.Need-returns
 returns c =
     let a = c .before .before .before .before .args in
     let h = c .before .before .before .before .pre in
-    rw (view-decode (a .image .now) (a .t) (h .1) (h .2), ← c .before .load-view .ensures, ← c .before .before .bad-servers .ensures)
+    rw (view-decode (a .image .now) (a .t .0) (h .1) (h .2), ← c .before .load-view .ensures, ← c .before .before .bad-servers .ensures)
 
 pub view-holds-spec : {M : Type 1} → statement M
 view-holds-spec = tie.close (tie.spec bad-servers-requires load-view-requires cast-result returns)

@@ -11,8 +11,8 @@ enum-told c = search needs
 enum-told-2 : tie.Need-enum-told-2
 enum-told-2 c = search needs
 
-add-result : tie.Need-add-result
-add-result c = search needs
+add-t5 : tie.Need-add-t5
+add-t5 c = search needs
 
 returns : tie.Need-returns
 unfolding lastOf
@@ -23,4 +23,4 @@ unfolding lastOf
 returns-2 c = rw (c .before .enum-told2 .given .1)
 
 pub last-of-spec : {M : Type 1} → statement M
-last-of-spec = tie.close (tie.spec enum-told enum-told-2 add-result returns returns-2)
+last-of-spec = tie.close (tie.spec enum-told enum-told-2 add-t5 returns returns-2)

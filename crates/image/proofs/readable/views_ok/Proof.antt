@@ -4,7 +4,6 @@ use Prim.Native.Nat.{_+_, _-_, _≤_}
 use native.Mathlib.Omega.{arith}
 use borrow.Author.Tests.{not-true, not-false}
 use borrow.Author.Needs.{needs}
-use Rattle.image.specs.Tests.{last}
 use Rattle.image.specs.Scan.{viewOk, lastOf, open-high}
 use Rattle.protocol.specs.Tools.{allTo}
 use Rattle.image.specs.Loops.{all-start, all-more, all-fails}

@@ -34,7 +34,7 @@ returns-4 c =
     let a = c .before .before .before .before .before .before .before .before .before .before .before .args in
     pass (join (le-leb _ _ (c .before .before .before .before .before .before .if1 .left)) (le-leb _ _ (c .before .before .before .before .if2 .left)))
     (pass (sym (c .before .before .before .sender-fits .ensures) ∙ not-false _ (c .before .before .if3 .left))
-    (rw (sym (c .before .tag-fits .ensures ∙ tag-rule (a .image .now) (a .newest) (a .m .kind) (a .m .view .0) (c .before .before .before .before .before .before .before .before .before .before .before .pre .1)) ∙ not-true _ (c .if4 .taken))))
+    (rw (sym (c .before .tag-fits .ensures ∙ tag-rule (a .image .now) (a .newest .0) (a .m .kind) (a .m .view .0) (c .before .before .before .before .before .before .before .before .before .before .before .pre .1)) ∙ not-true _ (c .if4 .taken))))
 
 request-fits-requires : tie.Need-request-fits-requires
 request-fits-requires c κs = search needs
@@ -45,7 +45,7 @@ returns-5 c =
     let a = c .before .before .before .before .before .before .before .before .before .before .before .before .before .args in
     pass (join (le-leb _ _ (c .before .before .before .before .before .before .before .before .if1 .left)) (le-leb _ _ (c .before .before .before .before .before .before .if2 .left)))
     (pass (sym (c .before .before .before .before .before .sender-fits .ensures) ∙ not-false _ (c .before .before .before .before .if3 .left))
-    (pass (sym (c .before .before .before .tag-fits .ensures ∙ tag-rule (a .image .now) (a .newest) (a .m .kind) (a .m .view .0) (c .before .before .before .before .before .before .before .before .before .before .before .before .before .pre .1)) ∙ not-false _ (c .before .before .if4 .left))
+    (pass (sym (c .before .before .before .tag-fits .ensures ∙ tag-rule (a .image .now) (a .newest .0) (a .m .kind) (a .m .view .0) (c .before .before .before .before .before .before .before .before .before .before .before .before .before .pre .1)) ∙ not-false _ (c .before .before .if4 .left))
     (rw (sym (c .before .request-fits .ensures) ∙ not-true _ (c .if5 .taken)))))
 
 next-fits-requires : tie.Need-next-fits-requires
@@ -57,7 +57,7 @@ returns-6 c =
     let a = c .before .before .before .before .before .before .before .before .before .before .before .before .before .before .before .args in
     pass (join (le-leb _ _ (c .before .before .before .before .before .before .before .before .before .before .if1 .left)) (le-leb _ _ (c .before .before .before .before .before .before .before .before .if2 .left)))
     (pass (sym (c .before .before .before .before .before .before .before .sender-fits .ensures) ∙ not-false _ (c .before .before .before .before .before .before .if3 .left))
-    (pass (sym (c .before .before .before .before .before .tag-fits .ensures ∙ tag-rule (a .image .now) (a .newest) (a .m .kind) (a .m .view .0) (c .before .before .before .before .before .before .before .before .before .before .before .before .before .before .before .pre .1)) ∙ not-false _ (c .before .before .before .before .if4 .left))
+    (pass (sym (c .before .before .before .before .before .tag-fits .ensures ∙ tag-rule (a .image .now) (a .newest .0) (a .m .kind) (a .m .view .0) (c .before .before .before .before .before .before .before .before .before .before .before .before .before .before .before .pre .1)) ∙ not-false _ (c .before .before .before .before .if4 .left))
     (pass (sym (c .before .before .before .request-fits .ensures) ∙ not-false _ (c .before .before .if5 .left))
     (rw (sym (c .before .next-fits .ensures) ∙ not-true _ (c .if6 .taken))))))
 
@@ -70,7 +70,7 @@ returns-7 c =
     let a = c .before .before .before .before .before .before .before .before .before .before .before .before .before .before .before .before .before .args in
     pass (join (le-leb _ _ (c .before .before .before .before .before .before .before .before .before .before .before .before .if1 .left)) (le-leb _ _ (c .before .before .before .before .before .before .before .before .before .before .if2 .left)))
     (pass (sym (c .before .before .before .before .before .before .before .before .before .sender-fits .ensures) ∙ not-false _ (c .before .before .before .before .before .before .before .before .if3 .left))
-    (pass (sym (c .before .before .before .before .before .before .before .tag-fits .ensures ∙ tag-rule (a .image .now) (a .newest) (a .m .kind) (a .m .view .0) (c .before .before .before .before .before .before .before .before .before .before .before .before .before .before .before .before .before .pre .1)) ∙ not-false _ (c .before .before .before .before .before .before .if4 .left))
+    (pass (sym (c .before .before .before .before .before .before .before .tag-fits .ensures ∙ tag-rule (a .image .now) (a .newest .0) (a .m .kind) (a .m .view .0) (c .before .before .before .before .before .before .before .before .before .before .before .before .before .before .before .before .before .pre .1)) ∙ not-false _ (c .before .before .before .before .before .before .if4 .left))
     (pass (sym (c .before .before .before .before .before .request-fits .ensures) ∙ not-false _ (c .before .before .before .before .if5 .left))
     (pass (sym (c .before .before .before .next-fits .ensures) ∙ not-false _ (c .before .before .if6 .left))
     (rw (sym (c .before .entry-zero .ensures) ∙ not-true _ (c .if7 .taken)))))))
@@ -84,7 +84,7 @@ returns-8 c =
     let a = c .before .before .before .before .before .before .before .before .before .before .before .before .before .before .before .before .before .before .args in
     pass (join (le-leb _ _ (c .before .before .before .before .before .before .before .before .before .before .before .before .before .if1 .left)) (le-leb _ _ (c .before .before .before .before .before .before .before .before .before .before .before .if2 .left)))
     (pass (sym (c .before .before .before .before .before .before .before .before .before .before .sender-fits .ensures) ∙ not-false _ (c .before .before .before .before .before .before .before .before .before .if3 .left))
-    (pass (sym (c .before .before .before .before .before .before .before .before .tag-fits .ensures ∙ tag-rule (a .image .now) (a .newest) (a .m .kind) (a .m .view .0) (c .before .before .before .before .before .before .before .before .before .before .before .before .before .before .before .before .before .before .pre .1)) ∙ not-false _ (c .before .before .before .before .before .before .before .if4 .left))
+    (pass (sym (c .before .before .before .before .before .before .before .before .tag-fits .ensures ∙ tag-rule (a .image .now) (a .newest .0) (a .m .kind) (a .m .view .0) (c .before .before .before .before .before .before .before .before .before .before .before .before .before .before .before .before .before .before .pre .1)) ∙ not-false _ (c .before .before .before .before .before .before .before .if4 .left))
     (pass (sym (c .before .before .before .before .before .before .request-fits .ensures) ∙ not-false _ (c .before .before .before .before .before .if5 .left))
     (pass (sym (c .before .before .before .before .next-fits .ensures) ∙ not-false _ (c .before .before .before .if6 .left))
     (pass (sym (c .before .before .entry-zero .ensures) ∙ not-false _ (c .before .if7 .left))
