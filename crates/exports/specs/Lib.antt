@@ -1,5 +1,1 @@
 pub mod Answers
-pub mod Records
-pub mod Rules
-pub mod Calls
-pub mod Shown

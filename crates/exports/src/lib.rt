@@ -1,8 +1,4 @@
 // The C interface. Every answer is refusal + 256 * result.
-mod calls;
-mod records;
-mod rules;
-
 ghost use mathlib.Core.Path.{_≡_};
 ghost use Rattle.protocol.specs.Sizes.{quorumSize};
 ghost use Rattle.image.specs.Fresh.{freshOn};
@@ -10,10 +6,7 @@ ghost use Rattle.image.specs.Premise.{premiseOn};
 ghost use Rattle.consistency.specs.Steps.{stepOn, leftBy, answered};
 ghost use Rattle.journal.specs.Replays.{replayOn};
 ghost use Rattle.exports.specs.Answers.{packed, flagged, packedReplay};
-ghost use Rattle.exports.specs.Calls.{serverCall, replied, serverLeft, clientCall, completed, clientLeft, administratorCall, accepted, administratorLeft};
-use calls::administrator_call;
-use calls::client_call;
-use calls::server_call;
+ghost use Rattle.single.specs.Calls.{serverCall, replied, serverLeft, clientCall, completed, clientLeft, administratorCall, accepted, administratorLeft};
 use image::fresh::fresh;
 use image::premise::Report;
 use image::premise::premise;
@@ -21,9 +14,12 @@ use journal::replay::replay;
 use protocol::Called;
 use protocol::Closing;
 use protocol::Served;
-use records::write_administrator;
-use records::write_client;
-use records::write_server;
+use single::calls::administrator_call;
+use single::calls::client_call;
+use single::calls::server_call;
+use single::records::write_administrator;
+use single::records::write_client;
+use single::records::write_server;
 use values::sizes::QuorumSize;
 use values::sizes::quorum_size;
 use world::Stepped;

@@ -1,6 +1,6 @@
 use mathlib.Core.Path.{sym, ap, _∙_}
 use Rattle.protocol.specs.Clients.{called}
-use Rattle.exports.specs.Calls.{administrator-size}
+use Rattle.single.specs.Calls.{administrator-size}
 use borrow.Author.Needs.{needs}
 use Rattle.exports.proofs.zw_administrator.Statement.{statement}
 use Rattle.exports.proofs.zw_administrator.Tie as tie

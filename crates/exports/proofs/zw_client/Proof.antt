@@ -1,6 +1,6 @@
 use mathlib.Core.Path.{sym, ap, _∙_}
 use Rattle.protocol.specs.Clients.{closing}
-use Rattle.exports.specs.Calls.{client-size}
+use Rattle.single.specs.Calls.{client-size}
 use borrow.Author.Needs.{needs}
 use Rattle.exports.proofs.zw_client.Statement.{statement}
 use Rattle.exports.proofs.zw_client.Tie as tie

@@ -1,6 +1,6 @@
 use mathlib.Core.Path.{sym, ap, _∙_}
 use Rattle.protocol.specs.Servers.{served}
-use Rattle.exports.specs.Calls.{server-size}
+use Rattle.single.specs.Calls.{server-size}
 use borrow.Author.Needs.{needs}
 use Rattle.exports.proofs.zw_server.Statement.{statement}
 use Rattle.exports.proofs.zw_server.Tie as tie

@@ -1,0 +1,34 @@
+use mathlib.Core.Path.{_≡_, refl, sym, ap, _∙_}
+use Rattle.codec.specs.Records.{serverBytes, serverHead, entryBytes}
+use Rattle.single.specs.Records.{in-two}
+use borrow.Author.Needs.{needs}
+use Rattle.single.proofs.records.write_server.Statement.{statement}
+use Rattle.single.proofs.records.write_server.Tie as tie
+
+server-head-requires : tie.Need-server-head-requires
+server-head-requires c κs = search needs
+
+entry-bytes-requires : tie.Need-entry-bytes-requires
+entry-bytes-requires c κs = search needs
+
+slice-aggregate-put-bytes : tie.Need-slice-aggregate-put-bytes
+slice-aggregate-put-bytes c = search needs
+
+put-bytes-requires : tie.Need-put-bytes-requires
+put-bytes-requires c κs = search needs
+
+slice-aggregate-put-bytes-2 : tie.Need-slice-aggregate-put-bytes-2
+slice-aggregate-put-bytes-2 c = search needs
+
+put-bytes-requires-2 : tie.Need-put-bytes-requires-2
+put-bytes-requires-2 c κs = search needs
+
+same-length : tie.Need-same-length
+same-length c = search needs
+
+returns : tie.Need-returns
+unfolding serverBytes serverHead entryBytes
+returns c = in-two (c .before .before .before .before .before .before .before .before .before .before .before .before .before .before .args .bytes .now) _ _ _ _ (serverHead (c .before .before .before .before .before .before .before .before .before .before .before .before .before .before .args .v)) (entryBytes (c .before .before .before .before .before .before .before .before .before .before .before .before .before .before .args .v .entry)) 8 refl (sym (c .before .before .before .before .before .before .before .before .before .before .before .before .before .before .pre)) (c .before .before .before .before .before .before .before .before .before .before .before .before .server-head .ensures) (c .before .before .before .before .before .before .before .put-bytes .ensures) (c .before .before .before .before .before .before .before .before .before .before .entry-bytes .ensures) (c .before .before .put-bytes2 .ensures)
+
+pub write-server-spec : {M : Type 1} → statement M
+write-server-spec = tie.close (tie.spec server-head-requires entry-bytes-requires slice-aggregate-put-bytes put-bytes-requires slice-aggregate-put-bytes-2 put-bytes-requires-2 same-length returns)

@@ -1,0 +1,4 @@
+pub mod Records
+pub mod Rules
+pub mod Calls
+pub mod Shown

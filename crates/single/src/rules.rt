@@ -1,0 +1,109 @@
+// The rules of single machines, chosen by number.
+ghost use mathlib.Core.Path.{_≡_};
+ghost use Rattle.protocol.specs.Servers.{served};
+ghost use Rattle.protocol.specs.Clients.{begun, closing, called};
+ghost use Rattle.single.specs.Rules.{serverRule, clientRule, administratorRule, opens, blankStamp};
+use checked::rules;
+use protocol::Administrator;
+use protocol::Begun;
+use protocol::Called;
+use protocol::Client;
+use protocol::Closing;
+use protocol::Entry;
+use protocol::Message;
+use protocol::MessageNumber;
+use protocol::Served;
+use protocol::Server;
+use protocol::Stamp;
+use protocol::View;
+use protocol::ViewNumber;
+
+// A server's rules, by the kinds of their steps: 3 deliver, 6 false answer.
+pub fn server_rule(a: Server, m: Message, rule: u8, flag: u8, view: u8) -> Served
+    ensures { λ r. ⌜ served r ≡ serverRule a m rule flag view ⌝ }
+{
+    if 1 < flag {
+        return Served::ServeRefused(3);
+    }
+    if rule == 3 {
+        if view != 0 {
+            return Served::ServeRefused(3);
+        }
+        return rules::serve_rule(a, m, flag == 1);
+    }
+    if rule != 6 {
+        return Served::ServeRefused(3);
+    }
+    let refusal = rules::false_answer_rule(a, ViewNumber(view), m, flag == 1);
+    if refusal != 0 {
+        return Served::ServeRefused(refusal);
+    }
+    Served::Kept(a)
+}
+
+fn opening(b: Begun) -> Closing
+    ensures { λ r. ⌜ closing r ≡ opens (begun b) ⌝ }
+{
+    match b {
+        Begun::BeginRefused(x) => Closing::CloseRefused(x),
+        Begun::Began(c) => Closing::WritesNext(c),
+    }
+}
+
+fn blank(s: Stamp) -> bool
+    ensures { λ r. ⌜ r ≡ blankStamp s ⌝ }
+{
+    let count = s.count;
+    if count.0 != 0 {
+        return false;
+    }
+    s.writer == 0
+}
+
+// A client's rules, by the kinds of their steps: 1 write, 2 read, 4 the close by an answer taken.
+pub fn client_rule(c: Client, rule: u8, who: u8, n: MessageNumber, e: Entry) -> Closing
+    ensures { λ r. ⌜ closing r ≡ clientRule c rule who (n .0) e ⌝ }
+{
+    if rule == 4 {
+        return rules::close_rule(c, who, e, n);
+    }
+    let stamp = e.stamp;
+    if who != 0 {
+        return Closing::CloseRefused(3);
+    }
+    if !blank(stamp) {
+        return Closing::CloseRefused(3);
+    }
+    if rule == 1 {
+        return opening(rules::write_rule(c, e.value, n));
+    }
+    if rule != 2 {
+        return Closing::CloseRefused(3);
+    }
+    if e.value != 0 {
+        return Closing::CloseRefused(3);
+    }
+    opening(rules::read_rule(c, n))
+}
+
+// The administrator's rules, by the kinds of their steps: 7 new view, 4 the close of END by an answer taken.
+pub fn administrator_rule(a: Administrator, rule: u8, n: MessageNumber, v: View) -> Called
+    ensures { λ r. ⌜ called r ≡ administratorRule a rule (n .0) v ⌝ }
+{
+    if rule == 7 {
+        return rules::call_rule(a, v, n);
+    }
+    if rule != 4 {
+        return Called::CallRefused(3);
+    }
+    if n.0 != 0 {
+        return Called::CallRefused(3);
+    }
+    if v.members != 0 {
+        return Called::CallRefused(3);
+    }
+    if v.f != 0 {
+        return Called::CallRefused(3);
+    }
+    rules::advance_rule(a)
+}
