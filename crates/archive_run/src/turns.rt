@@ -7,13 +7,13 @@ ghost use Rattle.codec.specs.Lists.{put};
 ghost use Rattle.consistency.specs.Steps.{stepOn, leftBy};
 ghost use Rattle.world.specs.Images.{Legible};
 ghost use Rattle.archive_run.specs.Turns.{firstFits, firstOn, lineOn, turned, measured, lineAfter};
-use codec::layout::CLIENTS;
 use codec::layout::STEP;
 use codec::places::load_client;
 use codec::records::read_step;
 use image::fresh::fresh;
 use lines::operation_line;
 use protocol::Step;
+use protocol::limits::CLIENTS;
 use world::Stepped;
 use world::step::advance;
 

@@ -8,6 +8,18 @@ use protocol::MessageNumber;
 use protocol::Phase;
 use protocol::Server;
 use protocol::ViewNumber;
+use protocol::kinds::ANSWER;
+use protocol::kinds::END;
+use protocol::kinds::NONE;
+use protocol::kinds::READ;
+use protocol::kinds::READS;
+use protocol::kinds::START;
+use protocol::kinds::WRITE;
+use protocol::kinds::WRITES;
+use protocol::limits::CLIENTS;
+use protocol::limits::MESSAGES;
+use protocol::limits::SERVERS;
+use protocol::limits::VIEWS;
 use values::entries;
 use values::sizes;
 ghost use mathlib.Core.Path.{_≡_};
@@ -20,7 +32,7 @@ pub fn number_fits(n: MessageNumber) -> bool
     if n.0 < 1 {
         return false;
     }
-    n.0 <= 1023
+    n.0 <= MESSAGES
 }
 
 // A server: its view is at most 32, a correct one has no key but its own view's, and its entry fits.
@@ -29,7 +41,7 @@ pub fn server_in_range(a: Server) -> bool
 {
     let view = a.view;
     let entry = a.entry;
-    if 32 < view.0 {
+    if VIEWS < view.0 {
         return false;
     }
     let fits = entries::entry_fits(entry);
@@ -50,39 +62,39 @@ pub fn server_in_range(a: Server) -> bool
 fn sender_tag(kind: u8, sender: u8) -> bool
     ensures { λ r. ⌜ r ≡ senderTag kind sender ⌝ }
 {
-    if kind <= 2 {
+    if kind <= WRITE {
         if sender < 1 {
             return false;
         }
-        return sender <= 16;
+        return sender <= CLIENTS;
     }
-    if kind <= 4 {
+    if kind <= START {
         return sender == 0;
     }
     if sender < 1 {
         return false;
     }
-    sender <= 32
+    sender <= SERVERS
 }
 
 // The view of a message: 0 for READ and WRITE, else 1 to 32.
 fn view_tag(kind: u8, t: ViewNumber) -> bool
     ensures { λ r. ⌜ r ≡ viewTag kind (t .0) ⌝ }
 {
-    if kind <= 2 {
+    if kind <= WRITE {
         return t.0 == 0;
     }
     if t.0 < 1 {
         return false;
     }
-    t.0 <= 32
+    t.0 <= VIEWS
 }
 
 // The request of an answer is a message's number; any other message is not taken, and its request is 0.
 fn request_tag(kind: u8, taken: bool, n: MessageNumber) -> bool
     ensures { λ r. ⌜ r ≡ requestTag kind taken (n .0) ⌝ }
 {
-    if kind == 5 {
+    if kind == ANSWER {
         return number_fits(n);
     }
     if taken {
@@ -95,16 +107,16 @@ fn request_tag(kind: u8, taken: bool, n: MessageNumber) -> bool
 fn next_tag(kind: u8, taken: bool, n: MessageNumber) -> bool
     ensures { λ r. ⌜ r ≡ nextTag kind taken (n .0) ⌝ }
 {
-    if 1023 < n.0 {
+    if MESSAGES < n.0 {
         return false;
     }
     if taken {
         return true;
     }
-    if kind < 1 {
+    if kind < READ {
         return n.0 == 0;
     }
-    if 3 < kind {
+    if END < kind {
         return n.0 == 0;
     }
     true
@@ -115,10 +127,10 @@ fn entry_tag(kind: u8, e: Entry) -> bool
     ensures { λ r. ⌜ r ≡ entryTag kind e ⌝ }
 {
     let zero = entries::is_empty(e);
-    if kind == 1 {
+    if kind == READ {
         return zero;
     }
-    if kind == 3 {
+    if kind == END {
         return zero;
     }
     true
@@ -133,10 +145,10 @@ pub fn message_in_range(m: Message) -> bool
     let request = m.request;
     let next = m.next;
     let entry = m.entry;
-    if kind < 1 {
+    if kind < READ {
         return false;
     }
-    if 5 < kind {
+    if ANSWER < kind {
         return false;
     }
     let sender_ok = sender_tag(kind, m.sender);
@@ -167,10 +179,10 @@ fn idle_fits(c: Client) -> bool
     ensures { λ r. ⌜ r ≡ idleFits c ⌝ }
 {
     let entry = c.entry;
-    if 2 < c.kind {
+    if READS < c.kind {
         return false;
     }
-    if c.kind != 0 {
+    if c.kind != NONE {
         return true;
     }
     entries::is_empty(entry)
@@ -180,10 +192,10 @@ fn idle_fits(c: Client) -> bool
 fn open_kind(kind: u8) -> bool
     ensures { λ r. ⌜ r ≡ openKind kind ⌝ }
 {
-    if kind < 1 {
+    if kind < WRITES {
         return false;
     }
-    kind <= 2
+    kind <= READS
 }
 
 // A reading client: of a write only the entry's value is set, of a read the entry is zero.
@@ -207,7 +219,7 @@ fn reading_fits(c: Client, n: MessageNumber) -> bool
     if stamp.writer != 0 {
         return false;
     }
-    if c.kind == 1 {
+    if c.kind == WRITES {
         return true;
     }
     entry.value == 0
@@ -245,7 +257,7 @@ pub fn client_in_range(c: Client) -> bool
 fn end_fits(newest: ViewNumber, n: MessageNumber) -> bool
     ensures { λ r. ⌜ r ≡ endFits (newest .0) (n .0) ⌝ }
 {
-    if 32 <= newest.0 {
+    if VIEWS <= newest.0 {
         return false;
     }
     number_fits(n)
@@ -270,7 +282,7 @@ pub fn administrator_in_range(a: Administrator) -> bool
     if newest.0 < 1 {
         return false;
     }
-    if 32 < newest.0 {
+    if VIEWS < newest.0 {
         return false;
     }
     ending_in_range(newest, ending)

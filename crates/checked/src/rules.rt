@@ -16,6 +16,12 @@ use protocol::Served;
 use protocol::Server;
 use protocol::View;
 use protocol::ViewNumber;
+use protocol::kinds::ANSWER;
+use protocol::kinds::READS;
+use protocol::kinds::WRITES;
+use protocol::limits::CLIENTS;
+use protocol::limits::MESSAGES;
+use protocol::limits::VIEWS;
 use values::entries;
 ghost use mathlib.Core.Path.{_≡_};
 ghost use Rattle.protocol.specs.Tools.{numberOf};
@@ -53,7 +59,7 @@ pub fn false_answer_rule(a: Server, t: ViewNumber, m: Message, source: bool) -> 
     if t.0 < 1 {
         return 3;
     }
-    if 32 < t.0 {
+    if VIEWS < t.0 {
         return 3;
     }
     servers::may_answer(a, t, m, source)
@@ -71,7 +77,7 @@ pub fn write_rule(c: Client, value: u32, n: MessageNumber) -> Begun
     if !number_ok {
         return Begun::BeginRefused(3);
     }
-    clients::begin(c, 1, value, n)
+    clients::begin(c, WRITES, value, n)
 }
 
 // A client begins a read with its READ, number n: 3, 4.
@@ -86,7 +92,7 @@ pub fn read_rule(c: Client, n: MessageNumber) -> Begun
     if !number_ok {
         return Begun::BeginRefused(3);
     }
-    clients::begin(c, 2, 0, n)
+    clients::begin(c, READS, 0, n)
 }
 
 // Whether a message is an answer that may be taken, by number, r being the request that waits, or 0: 3; 5, not an answer; 7, taken
@@ -98,11 +104,11 @@ pub fn take_rule(m: Message, r: MessageNumber) -> u8
     if !message_ok {
         return 3;
     }
-    if 1023 < r.0 {
+    if MESSAGES < r.0 {
         return 3;
     }
     let request = m.request;
-    if m.kind != 5 {
+    if m.kind != ANSWER {
         return 5;
     }
     if m.taken {
@@ -137,7 +143,7 @@ pub fn close_rule(c: Client, who: u8, e: Entry, n: MessageNumber) -> Closing
     if who < 1 {
         return Closing::CloseRefused(3);
     }
-    if 16 < who {
+    if CLIENTS < who {
         return Closing::CloseRefused(3);
     }
     let entry_ok = entries::entry_fits(e);

@@ -9,13 +9,13 @@ ghost use Rattle.image.specs.Scan.{Open};
 ghost use Rattle.image.specs.Chains.{chainsFit, isTaken};
 ghost use Rattle.image.specs.Walks.{walked, chained};
 use super::sent::present;
-use codec::layout::ANSWER;
-use codec::layout::END;
-use codec::layout::MESSAGES;
-use codec::layout::READ;
 use codec::places::load_message;
 use codec::places::load_used;
 use protocol::MessageNumber;
+use protocol::kinds::ANSWER;
+use protocol::kinds::END;
+use protocol::kinds::READ;
+use protocol::limits::MESSAGES;
 
 // A walk along links: the links followed until zero, or none where a link is no taken answer of the request or zero is
 // not reached within the links allowed.

@@ -9,7 +9,6 @@ ghost use Rattle.image.specs.Fresh.{idleServer, seeded, freshOn};
 use codec::bytes::clear;
 use codec::bytes::put_bytes;
 use codec::layout::IMAGE;
-use codec::layout::SERVERS;
 use codec::places::store_administrator;
 use codec::places::store_server;
 use codec::places::store_view;
@@ -22,6 +21,7 @@ use protocol::Stamp;
 use protocol::StampCount;
 use protocol::View;
 use protocol::ViewNumber;
+use protocol::limits::SERVERS;
 use values::sizes::holds;
 use values::sizes::sized;
 

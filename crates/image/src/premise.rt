@@ -11,12 +11,12 @@ ghost use Rattle.codec.specs.Images.{decode};
 ghost use Rattle.image.specs.Premise.{within, premiseOn, reported};
 use super::readable::readable;
 use codec::layout::IMAGE;
-use codec::layout::SERVERS;
 use codec::places::load_administrator;
 use codec::places::load_server;
 use codec::places::load_view;
 use protocol::ServerNumber;
 use protocol::ViewNumber;
+use protocol::limits::SERVERS;
 use values::sizes::holds;
 
 // A refusal, or whether no view has more faulty key holders than its threshold.

@@ -21,18 +21,14 @@ use super::sent::client_fits;
 use super::sent::header_fits;
 use super::sent::message_fits;
 use codec::layout::CLIENT;
-use codec::layout::CLIENTS;
 use codec::layout::CLIENTS_AT;
 use codec::layout::HEADER;
 use codec::layout::IMAGE;
 use codec::layout::MESSAGE;
-use codec::layout::MESSAGES;
 use codec::layout::MESSAGES_AT;
 use codec::layout::SERVER;
-use codec::layout::SERVERS;
 use codec::layout::SERVERS_AT;
 use codec::layout::VIEW;
-use codec::layout::VIEWS;
 use codec::layout::VIEWS_AT;
 use codec::places::load_administrator;
 use codec::places::load_message;
@@ -44,6 +40,10 @@ use protocol::Ending;
 use protocol::MessageNumber;
 use protocol::ServerNumber;
 use protocol::ViewNumber;
+use protocol::limits::CLIENTS;
+use protocol::limits::MESSAGES;
+use protocol::limits::SERVERS;
+use protocol::limits::VIEWS;
 
 fn header_ok(image: &[u8]) -> bool
     requires { ⌜ length (now image) ≡ imageSize ⌝ }

@@ -6,6 +6,7 @@ ghost use Rattle.codec.specs.Lists.{put};
 ghost use Rattle.lines.specs.Lines.{digits, numberThen, letterOf, operationLine, doneLine};
 use codec::bytes::put_bytes;
 use protocol::Client;
+use protocol::kinds::WRITES;
 
 // Every line fits this many bytes.
 pub const LINE: usize = 48;
@@ -43,7 +44,7 @@ pub fn put_number(out: &mut [u8], at: usize, n: u32, then: u8) -> usize
 fn letter(kind: u8) -> u8
     ensures { λ r. ⌜ r ≡ letterOf kind ⌝ }
 {
-    if kind == 1 {
+    if kind == WRITES {
         return b'W';
     }
     b'R'

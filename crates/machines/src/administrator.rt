@@ -5,6 +5,7 @@ use protocol::Ending;
 use protocol::MessageNumber;
 use protocol::View;
 use protocol::ViewNumber;
+use protocol::limits::VIEWS;
 use values::sizes;
 ghost use mathlib.Core.Path.{_≡_};
 ghost use Rattle.protocol.specs.Clients.{isEnding, endOf, call, called};
@@ -44,7 +45,7 @@ pub fn call(a: Administrator, v: View, n: MessageNumber) -> Called
     if !fits {
         return Called::CallRefused(8);
     }
-    if 32 <= newest.0 {
+    if VIEWS <= newest.0 {
         return Called::CallRefused(8);
     }
     Called::Calling(Administrator {
@@ -58,7 +59,7 @@ pub fn advance(a: Administrator) -> Called
     ensures { λ r. ⌜ called r ≡ advanceIn a ⌝ }
 {
     let newest = a.newest;
-    if 32 <= newest.0 {
+    if VIEWS <= newest.0 {
         return Called::CallRefused(3);
     }
     let next = ViewNumber(newest.0 + 1);

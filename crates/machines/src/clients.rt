@@ -6,6 +6,8 @@ use protocol::Entry;
 use protocol::MessageNumber;
 use protocol::Phase;
 use protocol::View;
+use protocol::kinds::WRITES;
+use protocol::limits::LAST_COUNT;
 use values::entries;
 use values::sizes;
 ghost use mathlib.Core.Path.{_≡_};
@@ -69,10 +71,10 @@ pub fn count_left(c: Client, e: Entry) -> bool
 {
     let stamp = e.stamp;
     let count = stamp.count;
-    if c.kind != 1 {
+    if c.kind != WRITES {
         return true;
     }
-    count.0 < 4294967295
+    count.0 < LAST_COUNT
 }
 
 // What is written after READ closed with the entry e: a reader writes it back, a writer its value with the next count.
@@ -83,7 +85,7 @@ fn to_write(c: Client, who: u8, e: Entry) -> Entry
     let stamp = e.stamp;
     let count = stamp.count;
     let own = c.entry;
-    if c.kind != 1 {
+    if c.kind != WRITES {
         return e;
     }
     entries::entry_of(count.0 + 1, who, own.value)

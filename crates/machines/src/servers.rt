@@ -5,6 +5,11 @@ use protocol::Served;
 use protocol::Server;
 use protocol::Shown;
 use protocol::ViewNumber;
+use protocol::kinds::END;
+use protocol::kinds::READ;
+use protocol::kinds::START;
+use protocol::kinds::WRITE;
+use protocol::limits::VIEWS;
 use values::entries;
 use values::sizes;
 ghost use mathlib.Core.Path.{_≡_};
@@ -117,10 +122,10 @@ fn request_refuses(a: Server, m: Message) -> u8
     let view = a.view;
     let asked = m.view;
     let kind = m.kind;
-    if kind == 1 {
+    if kind == READ {
         return 0;
     }
-    if kind == 2 {
+    if kind == WRITE {
         return 0;
     }
     if asked.0 != view.0 {
@@ -137,16 +142,16 @@ pub fn refuses(a: Server, m: Message, member: bool) -> u8
     let view = a.view;
     let asked = m.view;
     let kind = m.kind;
-    if 32 < asked.0 {
+    if VIEWS < asked.0 {
         return 3;
     }
-    if kind < 1 {
+    if kind < READ {
         return 5;
     }
-    if 4 < kind {
+    if START < kind {
         return 5;
     }
-    if kind == 4 {
+    if kind == START {
         return start_refuses(a, m, member);
     }
     if a.faulty {
@@ -165,16 +170,16 @@ pub fn after(a: Server, m: Message) -> Server
 {
     let asked = m.view;
     let kind = m.kind;
-    if 32 < asked.0 {
+    if VIEWS < asked.0 {
         return a;
     }
-    if kind == 1 {
+    if kind == READ {
         return a;
     }
-    if kind == 2 {
+    if kind == WRITE {
         return keeping(a, m.entry);
     }
-    if kind == 3 {
+    if kind == END {
         return without_key(a);
     }
     if a.faulty {
@@ -192,7 +197,7 @@ pub fn serve(a: Server, m: Message, member: bool) -> Served
         return Served::ServeRefused(refusal);
     }
     let b = after(a, m);
-    if m.kind == 4 {
+    if m.kind == START {
         return Served::Kept(b);
     }
     Served::Answered(b, shown_by(b))
@@ -204,10 +209,10 @@ pub fn may_answer(a: Server, t: ViewNumber, m: Message, source: bool) -> u8
     ensures { λ r. ⌜ r ≡ numberOf (mayAnswer a (t .0) m source) ⌝ }
 {
     let kind = m.kind;
-    if kind < 1 {
+    if kind < READ {
         return 5;
     }
-    if 3 < kind {
+    if END < kind {
         return 5;
     }
     if !source {

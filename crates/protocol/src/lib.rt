@@ -1,4 +1,6 @@
 // The records of the protocol. The rules on them are the definitions in specs/.
+pub mod kinds;
+pub mod limits;
 
 // Four counters, counted apart.
 pub struct StampCount(pub u32);

@@ -2,6 +2,7 @@
 use protocol::Entry;
 use protocol::Stamp;
 use protocol::StampCount;
+use protocol::limits::CLIENTS;
 ghost use mathlib.Core.Path.{_≡_};
 ghost use Rattle.protocol.specs.Entries.{entry, empty, below, larger, same, entryFits};
 
@@ -88,5 +89,5 @@ pub fn entry_fits(e: Entry) -> bool
     ensures { λ r. ⌜ r ≡ entryFits e ⌝ }
 {
     let stamp = e.stamp;
-    stamp.writer <= 16
+    stamp.writer <= CLIENTS
 }

@@ -1,10 +1,19 @@
 // Sets of numbers as bits, sizes of views and quorums.
 use protocol::View;
+use protocol::limits::SERVERS;
 ghost use mathlib.Core.Path.{_≡_};
 ghost use Rattle.protocol.specs.Tools.{holds};
 ghost use Rattle.protocol.specs.Sizes.{quorumSize, size, sized, readSize, writeSize};
 ghost use Rattle.values.specs.Bits.{bitIn};
 ghost use Rattle.values.specs.Sizes.{sizing};
+
+// A set of bits holds the numbers 1 to 32.
+const LAST_NUMBER: u8 = 32;
+
+const LAST_SERVER: u32 = SERVERS as u32;
+
+// 32 servers are enough for no larger threshold.
+const MOST_FAULTS: u32 = 10;
 
 // The size of a quorum, or a refusal.
 pub enum QuorumSize {
@@ -19,10 +28,10 @@ pub fn quorum_size(n: u32, f: u32) -> QuorumSize
     if n < 1 {
         return QuorumSize::SizeRefused(8);
     }
-    if 32 < n {
+    if LAST_SERVER < n {
         return QuorumSize::SizeRefused(8);
     }
-    if 10 < f {
+    if MOST_FAULTS < f {
         return QuorumSize::SizeRefused(8);
     }
     if n < 3 * f + 1 {
@@ -38,7 +47,7 @@ pub fn holds(bits: u32, k: u8) -> bool
     if k == 0 {
         return false;
     }
-    if 32 < k {
+    if LAST_NUMBER < k {
         return false;
     }
     (bits >> (k - 1)) % 2 == 1
@@ -51,7 +60,7 @@ pub fn bit_of(k: u8) -> u32
     if k == 0 {
         return 0;
     }
-    if 32 < k {
+    if LAST_NUMBER < k {
         return 0;
     }
     1u32 << (k - 1)

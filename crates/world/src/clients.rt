@@ -8,8 +8,6 @@ ghost use Rattle.world.specs.Images.{Legible, Does};
 use super::Stepped;
 use super::mail::request;
 use super::mail::send;
-use codec::layout::MESSAGES;
-use codec::layout::READ;
 use codec::places::load_client;
 use codec::places::load_used;
 use codec::places::store_client;
@@ -17,6 +15,8 @@ use machines::clients::begin;
 use protocol::Begun;
 use protocol::MessageNumber;
 use protocol::ViewNumber;
+use protocol::kinds::READ;
+use protocol::limits::MESSAGES;
 use values::entries::entry_of;
 
 // "Write, read: 4, client not idle; 10"

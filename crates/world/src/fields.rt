@@ -4,11 +4,11 @@ ghost use mathlib.Core.Bool.{_&&_};
 ghost use Prim.Native.Nat.{_<_};
 ghost use Rattle.protocol.specs.Steps.{field as fieldOf, fieldsFit};
 ghost use Rattle.world.specs.Checks.{inRow, whoFits};
-use codec::layout::CLIENTS;
-use codec::layout::MESSAGES;
-use codec::layout::SERVERS;
-use codec::layout::VIEWS;
 use protocol::Step;
+use protocol::limits::CLIENTS;
+use protocol::limits::MESSAGES;
+use protocol::limits::SERVERS;
+use protocol::limits::VIEWS;
 
 // A flag for each field that a step may use; who is a client or a server.
 const CLIENT: u8 = 1;

@@ -17,6 +17,7 @@ use protocol::MessageNumber;
 use protocol::ServerNumber;
 use protocol::Shown;
 use protocol::ViewNumber;
+use protocol::kinds::ANSWER;
 
 // A message that is no answer.
 pub fn request(kind: u8, sender: u8, t: ViewNumber, e: Entry) -> Message
@@ -40,7 +41,7 @@ pub fn answer(s: ServerNumber, n: MessageNumber, x: Shown) -> Message
     let view = x.view;
     let entry = x.entry;
     Message {
-        kind: 5,
+        kind: ANSWER,
         sender: s.0,
         view: view,
         taken: false,

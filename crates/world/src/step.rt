@@ -22,6 +22,8 @@ use image::readable::readable;
 use protocol::ServerNumber;
 use protocol::Step;
 use protocol::View;
+use protocol::kinds::READS;
+use protocol::kinds::WRITES;
 
 // "1 write ... 2 read ... 3 deliver ... 4 take ... 5 fault ... 6 false answer ... 7 new view"
 fn perform(image: &mut [u8], st: Step) -> Stepped
@@ -34,8 +36,8 @@ fn perform(image: &mut [u8], st: Step) -> Stepped
     let t = st.view;
     let source = st.source;
     match kind {
-        1 => begins(image, who, 1, st.value),
-        2 => begins(image, who, 2, 0),
+        1 => begins(image, who, WRITES, st.value),
+        2 => begins(image, who, READS, 0),
         3 => deliver(image, ServerNumber(who), n),
         4 => take(image, n),
         5 => fault(image, ServerNumber(who)),

@@ -5,8 +5,6 @@ ghost use Rattle.world.specs.Images.{Legible, Does};
 use super::Stepped;
 use super::mail::request;
 use super::mail::send;
-use codec::layout::END;
-use codec::layout::MESSAGES;
 use codec::places::load_administrator;
 use codec::places::load_used;
 use codec::places::store_administrator;
@@ -16,6 +14,8 @@ use protocol::Called;
 use protocol::MessageNumber;
 use protocol::View;
 use protocol::ViewNumber;
+use protocol::kinds::END;
+use protocol::limits::MESSAGES;
 use values::entries::entry_of;
 
 // "New view t+1, t being the newest: its members and f are recorded and END t is sent." "4, ending; 8, size rule broken or

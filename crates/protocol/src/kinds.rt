@@ -1,0 +1,17 @@
+// The kinds of messages: "READ (1)", "WRITE (2)", "END (3)", "START (4)", "5 answer".
+pub const READ: u8 = 1;
+
+pub const WRITE: u8 = 2;
+
+pub const END: u8 = 3;
+
+pub const START: u8 = 4;
+
+pub const ANSWER: u8 = 5;
+
+// The kinds of a client's operation: "0 none yet, 1 write, 2 read".
+pub const NONE: u8 = 0;
+
+pub const WRITES: u8 = 1;
+
+pub const READS: u8 = 2;
