@@ -1,26 +1,23 @@
 -- An entry that a quorum holds is carried into every later view, and every later READ phase sees it. Assumes nothing.
 use Prim.Native.Nat.{ℕ, zero, suc, _+_, _-_, _≤_, _<_}
-use native.Mathlib.Nat.{le-refl}
 use native.Mathlib.Decide.{decLt}
 use native.Mathlib.Omega.{arith}
-use mathlib.Core.Bool.{Bool, true, false, _&&_}
-use mathlib.Core.Path.{_≡_, refl, sym, ap, subst, _∙_}
-use mathlib.Core.Logic.{_⊎_, inl, inr}
+use mathlib.Core.Bool.{true, false}
+use mathlib.Core.Path.{_≡_, sym, subst, _∙_}
 use lib.Dec.{leb}
 use borrow.Author.Tests.{leb-true}
 use Rattle.protocol.specs.declared.Entry.{Entry}
-use Rattle.protocol.specs.declared.Message.{Message}
-use Rattle.protocol.specs.Tools.{countTo, allTo, holds}
+use Rattle.protocol.specs.Tools.{countTo, holds}
 use Rattle.protocol.specs.Sizes.{servers, size, sized, readSize, writeSize}
-use Rattle.protocol.specs.Servers.{WRITE, END, START, ANSWER}
+use Rattle.protocol.specs.Servers.{END, START}
 use Rattle.protocol.specs.Worlds.{World, view, server, newest, member, bad, premise}
 use Rattle.protocol.specs.Laws.Tests.{allTo-at}
 use Rattle.protocol.specs.Laws.Sizes.{Sizes, sizes}
-use Rattle.protocol.specs.Laws.Entries.{_≼_, ≼-refl, ≼-trans}
+use Rattle.protocol.specs.Laws.Entries.{_≼_, ≼-trans}
 use Rattle.protocol.specs.Laws.Worlds.{sent}
-use Rattle.protocol.specs.Laws.Change.{lying, Vote, Votes, To}
-use Rattle.agreement.specs.Counting.{Beyond, beyond, Common, common}
-use Rattle.agreement.specs.Invariants.{IsAnswer, Fair, Again, Keyed, Root, Based, early, rooted, Opened, Before, StartOf, Inv}
+use Rattle.protocol.specs.Laws.Change.{lying, Vote, Votes}
+use Rattle.agreement.specs.Counting.{beyond, common}
+use Rattle.agreement.specs.Invariants.{Fair, Again, Root, Based, early, rooted, Before, StartOf, Inv}
 
 -- the last world of a run: its invariants, and the premise
 pub record Trusted (w : World) : Type 0 where

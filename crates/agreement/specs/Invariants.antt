@@ -1,13 +1,11 @@
 -- What holds of every world that a run reaches, proved from the relation `Change` alone. Assumes nothing.
-use Prim.Native.Nat.{ℕ, zero, suc, _+_, _≤_, _<_}
+use Prim.Native.Nat.{ℕ, suc, _+_, _≤_, _<_}
 use native.Mathlib.Nat.{le-refl}
-use native.Mathlib.Numerals.{add-one}
 use native.Mathlib.Omega.{arith}
-use mathlib.Core.Bool.{Bool, true, false, _&&_}
-use mathlib.Core.Path.{_≡_, refl, sym, ap, subst, _∙_}
+use mathlib.Core.Bool.{true, false}
+use mathlib.Core.Path.{_≡_}
 use mathlib.Core.Logic.{_⊎_, inl, inr}
 use Rattle.protocol.specs.declared.Entry.{Entry}
-use Rattle.protocol.specs.declared.Server.{Server}
 use Rattle.protocol.specs.declared.Message.{Message}
 use Rattle.protocol.specs.Tools.{holds}
 use Rattle.protocol.specs.Sizes.{writeSize}
@@ -17,7 +15,7 @@ use Rattle.protocol.specs.Worlds.{World, view, server, newest, member}
 use Rattle.protocol.specs.Laws.Tests.{clash, last-or}
 use Rattle.protocol.specs.Laws.Entries.{_≼_, ≼-refl, ≼-trans}
 use Rattle.protocol.specs.Laws.Worlds.{sent}
-use Rattle.protocol.specs.Laws.Change.{lying, Vote, Votes, To, Chosen, Sent, Joined, stay, join, Given, Carried, written, begun, Grew, Honest, Asked, Shows, nothing, old, its, Said, Started, New, Posted, none, one, Change}
+use Rattle.protocol.specs.Laws.Change.{lying, Votes, To, Joined, stay, join, Given, Carried, written, begun, Honest, Shows, nothing, old, its, Started, New, Posted, none, one, Change}
 
 -- ---- what is said of an answer m
 

@@ -1,16 +1,15 @@
 -- A list of operations in the order of their keys: each read returns the last write before it. Assumes nothing.
-use Prim.Native.Nat.{ℕ, zero, suc, _+_, _≤_, _<_}
 use native.Mathlib.Omega.{arith}
 use mathlib.Core.Path.{_≡_, refl, sym, ap, _∙_}
-use mathlib.Core.Logic.{_⊎_, inl, inr, _↔_}
-use mathlib.Core.Option.{Option, none, some}
+use mathlib.Core.Logic.{_⊎_, inl, inr}
+use mathlib.Core.Option.{Option, some}
 use mathlib.Core.List.{List, [], _∷_, map}
 use Rattle.protocol.specs.declared.Entry.{Entry}
 use Rattle.protocol.specs.Clients.{WRITES, READS}
-use Rattle.protocol.specs.Consistent.{Operation, In, here, there, Before, now, later, Reads, end, write, read, Between}
-use Rattle.protocol.specs.Laws.Entries.{_≼_, ≼-refl, ≼-trans}
-use Rattle.agreement.specs.Lists.{Rising, empty, next, no-member}
-use Rattle.agreement.specs.Precedence.{_≺_, Level, ≺-not, ≺-≼, Key, Precedes, by-stamp, by-kind, by-read, precedes-≼, precedes-≺}
+use Rattle.protocol.specs.Consistent.{Operation, In, here, there, Before, now, later, Reads, end, write, read}
+use Rattle.protocol.specs.Laws.Entries.{_≼_, ≼-refl}
+use Rattle.agreement.specs.Lists.{Rising, next}
+use Rattle.agreement.specs.Precedence.{_≺_, Level, ≺-not, Key, Precedes, by-stamp, by-kind, by-read, precedes-≼, precedes-≺}
 
 module _ {A : Type 0} (key : A → Key) (op : A → Operation) where
   abbrev Ahead : A → A → Type 0

@@ -1,34 +1,26 @@
 -- The operations of a run and the worlds they meet: what each one has sent, seen and made sure of. Assumes nothing.
-use Prim.Native.Nat.{ℕ, zero, suc, _+_, _≤_, _<_}
+use Prim.Native.Nat.{ℕ, _+_, _≤_, _<_}
 use native.Mathlib.Nat.{le-refl}
 use native.Mathlib.Omega.{arith}
-use mathlib.Core.Bool.{Bool, true, false, _&&_, _||_}
-use mathlib.Core.Path.{_≡_, refl, sym, ap, subst, _∙_}
-use mathlib.Core.Logic.{_⊎_, inl, inr}
-use mathlib.Core.List.{List, [], _∷_, _++_, map}
-use lib.Dec.{eqb}
-use borrow.Author.Tests.{eqb-true, eqb-false, eq-eqb, ne-eqb}
-use Rattle.protocol.specs.declared.MessageNumber.{MessageNumber}
+use mathlib.Core.Bool.{false}
+use mathlib.Core.Path.{_≡_, refl, ap, subst, _∙_}
+use mathlib.Core.Logic.{_⊎_}
+use mathlib.Core.List.{List}
+use borrow.Author.Tests.{eqb-false, eq-eqb}
 use Rattle.protocol.specs.declared.Entry.{Entry}
 use Rattle.protocol.specs.declared.Client.{Client}
-use Rattle.protocol.specs.declared.Message.{Message}
-use Rattle.protocol.specs.declared.Phase.{Phase}
-use Rattle.protocol.specs.declared.Phase.the-variants.{Idle, Reading, Writing}
-use Rattle.protocol.specs.Tools.{if}
-use Rattle.protocol.specs.Sizes.{readSize, writeSize}
-use Rattle.protocol.specs.Entries.{empty, entry, countOf, writerOf}
-use Rattle.protocol.specs.Servers.{WRITE, END, ANSWER}
+use Rattle.protocol.specs.declared.Phase.the-variants.{Reading, Writing}
+use Rattle.protocol.specs.Entries.{entry, countOf, writerOf}
+use Rattle.protocol.specs.Servers.{WRITE, END}
 use Rattle.protocol.specs.Clients.{WRITES, READS, number, isIdle, toWrite}
-use Rattle.protocol.specs.Worlds.{World, view, server, client, newest}
-use Rattle.protocol.specs.Consistent.{In, here, there}
-use Rattle.protocol.specs.Runs.{Tracked, unfinished, sentWrite, tracked}
-use Rattle.protocol.specs.Laws.Tests.{clash, last-or}
+use Rattle.protocol.specs.Worlds.{World, client, newest}
+use Rattle.protocol.specs.Consistent.{In}
+use Rattle.protocol.specs.Runs.{Tracked}
 use Rattle.protocol.specs.Laws.Worlds.{sent}
-use Rattle.protocol.specs.Laws.Entries.{_≼_, ≼-refl, ≼-trans}
-use Rattle.protocol.specs.Laws.Change.{lying, Votes, To, Chosen, Closed, Kept, Acted, same, began, wrote, ended, Writer, New, Posted, none, one, Change, Moved}
-use Rattle.agreement.specs.Lists.{Image, in-map, map-in, in-append, in-left, in-right, no-member, Rising, empty as nobody, next, rising-append, rising-map}
-use Rattle.agreement.specs.Invariants.{IsAnswer, Fair, Origin, blank, from, Inv, inv-on, grown, raised, votes-on, fair-back}
-use Rattle.agreement.specs.Carried.{Holds, Held, Seen, Read}
+use Rattle.protocol.specs.Laws.Change.{Closed, Kept, began, wrote, ended, one, Change}
+use Rattle.agreement.specs.Lists.{Rising}
+use Rattle.agreement.specs.Invariants.{IsAnswer, Origin, blank, from, Inv, grown, raised, votes-on}
+use Rattle.agreement.specs.Carried.{Held, Read}
 
 -- H2: an operation whose WRITE is sent has seen enough answers to its READ; it carries the chosen entry, or one with a count
 -- above it and the client's own number

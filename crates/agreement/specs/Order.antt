@@ -1,35 +1,31 @@
 -- The order of a run's operations. Assumes nothing.
 use Prim.Native.Nat.{ℕ, zero, suc, _+_, _≤_, _<_}
-use native.Mathlib.Nat.{le-refl}
 use native.Mathlib.Decide.{ℕ-discrete}
 use native.Mathlib.Omega.{arith}
 use mathlib.Core.Bool.{Bool, true, false, not, _&&_, _||_}
 use mathlib.Core.Path.{_≡_, refl, sym, ap, subst, _∙_}
 use mathlib.Core.Logic.{_⊎_, inl, inr, _↔_, _≢_}
-use mathlib.Core.Option.{Option, none, some}
+use mathlib.Core.Option.{none, some}
 use mathlib.Core.List.{List, [], _∷_, map}
-use lib.Dec.{ltb, leb, eqb}
-use borrow.Author.Tests.{ltb-true, eqb-true, eqb-false, eq-eqb, ne-eqb, lt-ltb, le-ltb}
-use Rattle.protocol.specs.declared.StampCount.{StampCount}
-use Rattle.protocol.specs.declared.Stamp.{Stamp}
+use lib.Dec.{ltb, eqb}
+use borrow.Author.Tests.{ltb-true, eqb-true, eq-eqb, ne-eqb, lt-ltb, le-ltb}
 use Rattle.protocol.specs.declared.Entry.{Entry}
-use Rattle.protocol.specs.declared.Message.{Message}
 use Rattle.protocol.specs.Tools.{if, any}
 use Rattle.protocol.specs.Entries.{empty, countOf, writerOf, same}
 use Rattle.protocol.specs.Servers.{WRITE}
 use Rattle.protocol.specs.Clients.{WRITES, READS}
 use Rattle.protocol.specs.Worlds.{World, message}
-use Rattle.protocol.specs.Consistent.{Operation, In, here, there, Before, now, later, Once, none as nobody, one, Completed, Returned, Stands, completed, surfaced, Ended, Reads, Between, Ordered, Consistent}
-use Rattle.protocol.specs.Runs.{Tracked, unfinished, Run, entryOf, operation, history}
-use Rattle.protocol.specs.Laws.Tests.{and-left, and-right, and-both, or-cases, clash, by-bool}
-use Rattle.protocol.specs.Laws.Entries.{_≼_, ≼-refl, ≼-trans, ≼-count}
+use Rattle.protocol.specs.Consistent.{Operation, In, here, there, Before, now, later, Once, none as nobody, one, Stands, completed, surfaced, Ended, Between, Ordered}
+use Rattle.protocol.specs.Runs.{Tracked, unfinished, entryOf, operation, history}
+use Rattle.protocol.specs.Laws.Tests.{and-left, and-right, and-both, or-cases, clash}
+use Rattle.protocol.specs.Laws.Entries.{_≼_, ≼-count}
 use Rattle.protocol.specs.Laws.Worlds.{content, sent}
-use Rattle.agreement.specs.Lists.{Image, in-map, map-in, Rising, next, Related, before, after, equal, related}
+use Rattle.agreement.specs.Lists.{in-map, map-in, Rising, next, Related, before, after, equal, related}
 use Rattle.agreement.specs.Sorting.{filter, in-filter, filter-in, filter-rising, sort, in-sort, sort-in, sort-sorted}
 use Rattle.agreement.specs.Invariants.{Origin, blank, from}
-use Rattle.agreement.specs.Carried.{Trusted, Held, Read, Seen, sees}
-use Rattle.agreement.specs.Operations.{Wrote, Done, Fits, Earlier, Some, Story}
-use Rattle.agreement.specs.Precedence.{_≺_, count, writer, Level, ≺-not, ≺-≼, level-≼, Key, Precedes, by-stamp, by-kind, by-read, precedes-trans, precedes-self, compared, precedes-≼, precedes-≺}
+use Rattle.agreement.specs.Carried.{Trusted, Read, sees}
+use Rattle.agreement.specs.Operations.{Wrote, Fits, Earlier, Some, Story}
+use Rattle.agreement.specs.Precedence.{_≺_, count, writer, Level, ≺-not, Key, Precedes, by-stamp, by-kind, by-read, precedes-trans, precedes-self, compared, precedes-≼, precedes-≺}
 use Rattle.agreement.specs.Legal.{Stand, Source, held, Asks, legal, equal-reads}
 
 -- entries that agree in every field are one

@@ -1,8 +1,8 @@
 -- The order of operations: by stamp, writes before reads, by the number of their READ. Assumes nothing.
-use Prim.Native.Nat.{ℕ, zero, suc, _+_, _≤_, _<_}
+use Prim.Native.Nat.{ℕ, _<_}
 use native.Mathlib.Decide.{decLt}
 use native.Mathlib.Omega.{arith}
-use mathlib.Core.Path.{_≡_, refl, sym}
+use mathlib.Core.Path.{_≡_, sym}
 use mathlib.Core.Logic.{_⊎_, inl, inr, _≢_}
 use Rattle.protocol.specs.declared.Entry.{Entry}
 use Rattle.protocol.specs.Entries.{countOf, writerOf}

@@ -1,39 +1,34 @@
 -- Every run keeps the invariants: of a fresh world, and from step to step. Assumes nothing.
-use Prim.Native.Nat.{ℕ, zero, suc, _+_, _≤_, _<_}
-use native.Mathlib.Nat.{le-refl}
+use Prim.Native.Nat.{ℕ, suc, _+_, _≤_}
 use native.Mathlib.Omega.{arith}
-use mathlib.Core.Bool.{Bool, true, false, _&&_, _||_}
-use mathlib.Core.Path.{_≡_, refl, sym, ap, subst, _∙_}
+use mathlib.Core.Bool.{Bool, true, false, _||_}
+use mathlib.Core.Path.{_≡_, refl, ap, subst}
 use mathlib.Core.Logic.{_⊎_, inl, inr}
-use mathlib.Core.List.{List, [], _∷_, _++_, map}
-use lib.ListN.{length, getD, replicate, length-replicate}
+use mathlib.Core.List.{List, [], _∷_}
 use lib.Dec.{eqb}
-use borrow.Author.Tests.{eqb-true, eqb-false, eq-eqb, ne-eqb}
+use borrow.Author.Tests.{eqb-true}
 use Rattle.protocol.specs.declared.View.{View}
 use Rattle.protocol.specs.declared.Server.{Server}
 use Rattle.protocol.specs.declared.Client.{Client}
 use Rattle.protocol.specs.declared.Message.{Message}
 use Rattle.protocol.specs.declared.Step.{Step}
-use Rattle.protocol.specs.declared.Phase.the-variants.{Idle}
-use Rattle.protocol.specs.Tools.{if, holds, bitOf, nth, Result, refused, done, passed}
-use Rattle.protocol.specs.Sizes.{servers, clients, messages, sized}
+use Rattle.protocol.specs.Tools.{if, holds, bitOf, Result, refused, done, passed}
+use Rattle.protocol.specs.Sizes.{messages, sized}
 use Rattle.protocol.specs.Entries.{empty}
-use Rattle.protocol.specs.Servers.{WRITE, START, ANSWER}
-use Rattle.protocol.specs.Clients.{WRITES, READS, isIdle, isEnding, number}
-use Rattle.protocol.specs.Worlds.{World, noView, noServer, noClient, noMessage, view, server, client, message, newest, member, freshServer, listTo, freshWorld, fresh}
+use Rattle.protocol.specs.Clients.{WRITES, READS, isIdle}
+use Rattle.protocol.specs.Worlds.{World, noMessage, view, server, client, member, freshWorld, fresh}
 use Rattle.protocol.specs.Steps.{After, step}
 use Rattle.protocol.specs.Consistent.{In, here, there}
-use Rattle.protocol.specs.Runs.{stepOf, stepBytes, Tracked, tracked, started, Run, noted, run, runFrom}
-use Rattle.protocol.specs.Laws.Tests.{clash, by-bool, or-cases}
+use Rattle.protocol.specs.Runs.{stepOf, stepBytes, Tracked, started, Run, noted, run, runFrom}
+use Rattle.protocol.specs.Laws.Tests.{clash, or-cases}
 use Rattle.protocol.specs.Laws.Fresh.{First, member-of, outside, first, used-none, views-count, servers-count, clients-count, messages-count, fresh-newest, fresh-view, fresh-settled, fresh-client, fresh-message}
 use Rattle.protocol.specs.Laws.Bits.{holds-bitOf, holds-none}
 use Rattle.protocol.specs.Laws.Worlds.{content, sent}
-use Rattle.protocol.specs.Laws.Sound.{Mail, Sized, Sound, Linked, nowhere}
-use Rattle.protocol.specs.Laws.Moves.{Lawful}
+use Rattle.protocol.specs.Laws.Sound.{Mail, Sized, Sound, nowhere}
 use Rattle.protocol.specs.Laws.Turns.{starter, step-lawful, step-starter}
-use Rattle.agreement.specs.Lists.{no-member, Rising, empty as nobody, next}
+use Rattle.agreement.specs.Lists.{no-member, empty as nobody, next}
 use Rattle.agreement.specs.Invariants.{Keyed, Based, early, Origin, blank, Inv, inv-on}
-use Rattle.agreement.specs.Operations.{Earlier, Some, Story, Fits}
+use Rattle.agreement.specs.Operations.{Story}
 use Rattle.agreement.specs.Story.{Fresh, Newly, story-on}
 
 -- ---- a fresh world

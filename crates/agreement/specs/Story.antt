@@ -1,34 +1,32 @@
 -- Every step keeps what is known of the operations of a run. Assumes nothing.
-use Prim.Native.Nat.{ℕ, zero, suc, _+_, _≤_, _<_}
+use Prim.Native.Nat.{ℕ, suc, _+_, _≤_, _<_}
 use native.Mathlib.Nat.{le-refl}
 use native.Mathlib.Decide.{ℕ-discrete}
 use native.Mathlib.Omega.{arith}
-use mathlib.Core.Bool.{Bool, true, false, _&&_, _||_}
+use mathlib.Core.Bool.{false}
 use mathlib.Core.Path.{_≡_, refl, sym, ap, subst, _∙_}
 use mathlib.Core.Logic.{_⊎_, inl, inr}
-use mathlib.Core.List.{List, [], _∷_, _++_, map}
-use lib.Dec.{eqb}
-use borrow.Author.Tests.{eqb-true, eqb-false, eq-eqb, ne-eqb}
+use mathlib.Core.List.{List, _++_, map}
+use borrow.Author.Tests.{eq-eqb, ne-eqb}
 use Rattle.protocol.specs.declared.MessageNumber.{MessageNumber}
 use Rattle.protocol.specs.declared.Entry.{Entry}
 use Rattle.protocol.specs.declared.Client.{Client}
 use Rattle.protocol.specs.declared.Message.{Message}
 use Rattle.protocol.specs.declared.Phase.{Phase}
 use Rattle.protocol.specs.declared.Phase.the-variants.{Idle, Reading, Writing}
-use Rattle.protocol.specs.Tools.{if}
 use Rattle.protocol.specs.Entries.{empty}
-use Rattle.protocol.specs.Servers.{WRITE, ANSWER}
+use Rattle.protocol.specs.Servers.{WRITE}
 use Rattle.protocol.specs.Clients.{WRITES, READS, number, isIdle}
 use Rattle.protocol.specs.Worlds.{World, client}
-use Rattle.protocol.specs.Consistent.{In, here, there}
+use Rattle.protocol.specs.Consistent.{In}
 use Rattle.protocol.specs.Runs.{Tracked, unfinished, sentWrite, tracked}
 use Rattle.protocol.specs.Laws.Tests.{by-test, clash, last-or}
 use Rattle.protocol.specs.Laws.Worlds.{sent}
-use Rattle.protocol.specs.Laws.Change.{Acted, same, began, wrote, ended, Writer, New, Posted, none, one, Change, Moved}
-use Rattle.agreement.specs.Lists.{Image, in-map, map-in, in-append, in-left, in-right, no-member, Rising, empty as nobody, next, rising-append, rising-map}
+use Rattle.protocol.specs.Laws.Change.{Acted, same, began, wrote, ended, Writer, Posted, none, one, Change, Moved}
+use Rattle.agreement.specs.Lists.{in-map, map-in, in-append, in-left, in-right, Rising, rising-append, rising-map}
 use Rattle.agreement.specs.Invariants.{Inv, grown}
 use Rattle.agreement.specs.Carried.{Held}
-use Rattle.agreement.specs.Operations.{Wrote, Done, Open, reading, writing, Fits, Earlier, Some, Story, held-on, wrote-on, wrote-new, held-new}
+use Rattle.agreement.specs.Operations.{Wrote, Open, reading, writing, Fits, Earlier, Some, Story, held-on, wrote-on, wrote-new, held-new}
 
 -- ---- an operation after a step
 

@@ -1,7 +1,7 @@
 -- Demand 3 on worlds. Assumes nothing.
 use Prim.Native.Nat.{ℕ}
 use mathlib.Core.Bool.{true}
-use mathlib.Core.Path.{_≡_, refl}
+use mathlib.Core.Path.{_≡_}
 use mathlib.Core.List.{List, map}
 use Rattle.protocol.specs.Tools.{done}
 use Rattle.protocol.specs.Worlds.{World, fresh, premise}

@@ -14,7 +14,6 @@ use Rattle.protocol.specs.Tools.{if, within, Result, refused, done, guard}
 use Rattle.protocol.specs.Sizes.{clients}
 use Rattle.protocol.specs.Steps.{After, step}
 use Rattle.protocol.specs.Runs.{stepWidth, stepOf}
-use Rattle.protocol.specs.declared.View.{View}
 use Rattle.protocol.specs.Sizes.{sized}
 use Rattle.protocol.specs.Worlds.{World, freshWorld, fresh}
 use Rattle.codec.specs.Layout.{imageSize}
@@ -28,7 +27,7 @@ use Rattle.world.specs.declared.Stepped.the-variants.{StepRefused, StepDone}
 use Rattle.preservation.specs.Begun.{fresh-kept}
 use Rattle.image.specs.Readable.{readable, world-readable}
 use Rattle.world.specs.Images.{stepped, Legible, Does}
-use Rattle.journal.specs.Replays.{spelled, advanced}
+use Rattle.journal.specs.Replays.{spelled}
 use Rattle.lines.specs.Lines.{operationLine}
 use Rattle.archive_run.specs.declared.turns.Moved.{Moved}
 use Rattle.archive_run.specs.declared.turns.Moved.the-variants.{Stopped, Went}

@@ -8,7 +8,6 @@ use lib.ListN.{length}
 use lib.Dec.{eqb}
 use borrow.Author.Tests.{eq-eqb}
 use Rattle.protocol.specs.Tools.{Result, refused, done, guard, passed}
-use Rattle.protocol.specs.declared.View.{View}
 use Rattle.protocol.specs.Sizes.{sized}
 use Rattle.protocol.specs.Worlds.{World, freshWorld, fresh, premise}
 use Rattle.protocol.specs.Consistent.{Consistent}
@@ -19,8 +18,8 @@ use Rattle.image.specs.Fresh.{outcome, freshOn}
 use Rattle.image.specs.Premise.{premiseOn}
 use Rattle.agreement.specs.Theorem.{linearizable}
 use Rattle.preservation.specs.Begun.{fresh-kept}
-use Rattle.consistency.specs.Runs.{Run, runFrom, history}
-use Rattle.consistency.specs.Worlds.{Spells, spelled, legible, Same, runFrom-same, history-same}
+use Rattle.consistency.specs.Runs.{runFrom, history}
+use Rattle.consistency.specs.Worlds.{Spells, spelled, legible, runFrom-same, history-same}
 
 -- what a fresh image that is not refused spells
 record Fresh (members f : ℕ) (i : List ℕ) : Type 0 where

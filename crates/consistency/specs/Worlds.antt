@@ -1,6 +1,6 @@
 -- A run of images is the run of worlds that they spell, place by place. Assumes nothing.
 use Prim.Native.Nat.{ℕ, _+_}
-use mathlib.Core.Bool.{Bool, true, false, _&&_}
+use mathlib.Core.Bool.{true}
 use mathlib.Core.Path.{_≡_, refl, sym, ap, subst, _∙_}
 use mathlib.Core.List.{List, [], _∷_, _++_, map}
 use lib.ListN.{length}
@@ -10,11 +10,11 @@ use Rattle.protocol.specs.Tools.{Result, refused, done, guard}
 use Rattle.protocol.specs.Worlds.{World}
 use Rattle.protocol.specs.Steps.{After, step}
 use Rattle.protocol.specs.Readable.{wellFormed}
-use Rattle.protocol.specs.Runs.{stepWidth, stepOf, stepBytes, left, Tracked, tracked, started, operation}
+use Rattle.protocol.specs.Runs.{stepOf, stepBytes, left, tracked, started, operation}
 use Rattle.protocol.specs.Runs as W
 use Rattle.codec.specs.Layout.{imageSize}
 use Rattle.codec.specs.Images.{encode, decode}
-use Rattle.image.specs.Readable.{readable, Read, read, world-decode, world-readable}
+use Rattle.image.specs.Readable.{readable, read, world-decode, world-readable}
 use Rattle.preservation.specs.Begun.{left-kept}
 use Rattle.consistency.specs.Steps.{stepOn, leftBy}
 use Rattle.consistency.specs.Runs.{Run, operationsOn, noted, run, runFrom, history}

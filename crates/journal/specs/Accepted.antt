@@ -6,15 +6,13 @@ use mathlib.Core.Path.{_≡_, refl, sym, ap, _∙_}
 use mathlib.Core.List.{List, [], _∷_}
 use lib.ListN.{length}
 use Rattle.protocol.specs.Tools.{Result, refused, done}
-use Rattle.protocol.specs.Worlds.{World}
 use Rattle.protocol.specs.Steps.{After}
 use Rattle.protocol.specs.Runs.{stepWidth, stepBytes, Replayed, onward, replay}
 use Rattle.protocol.specs.Runs as W
-use Rattle.codec.specs.Layout.{imageSize}
 use Rattle.codec.specs.Images.{encode, decode}
 use Rattle.image.specs.Readable.{readable, read}
 use Rattle.consistency.specs.Runs.{runFrom}
-use Rattle.consistency.specs.Worlds.{Spells, exactly-one, runFrom-same}
+use Rattle.consistency.specs.Worlds.{exactly-one, runFrom-same}
 use Rattle.journal.specs.Replays.{stepsOf, replayOn, whole-replay}
 
 -- the first n elements of a list

@@ -1,15 +1,14 @@
 -- "The rest of the journal after the last accepted step can be replayed on the same image with the same end." Assumes nothing.
-use Prim.Native.Nat.{ℕ, zero, suc, _+_, _*_, _-_, _/_, _%_, _≤_, _<_}
-use native.Mathlib.Numerals.{add-one}
+use Prim.Native.Nat.{ℕ, zero, suc, _+_, _*_, _-_, _/_, _%_, _≤_}
 use native.Mathlib.Omega.{arith}
-use mathlib.Core.Bool.{Bool, true, false, _&&_}
-use mathlib.Core.Path.{_≡_, refl, sym, ap, ap₂, subst, _∙_}
+use mathlib.Core.Bool.{Bool, true, false}
+use mathlib.Core.Path.{_≡_, refl, sym, ap, ap₂, _∙_}
 use mathlib.Core.List.{List, [], _∷_}
-use lib.ListN.{length, take, drop, length-drop}
+use lib.ListN.{length, drop, length-drop}
 use lib.Seq.{drop-drop}
-use lib.Dec.{eqb, leb}
+use lib.Dec.{eqb}
 use borrow.Author.Tests.{eqb-true}
-use Rattle.protocol.specs.Tools.{if, Result, refused, done}
+use Rattle.protocol.specs.Tools.{Result, refused, done}
 use Rattle.protocol.specs.Worlds.{World}
 use Rattle.protocol.specs.Readable.{wellFormed}
 use Rattle.protocol.specs.Steps.{After}
@@ -18,7 +17,7 @@ use Rattle.codec.specs.Layout.{imageSize}
 use Rattle.codec.specs.Images.{encode, decode}
 use Rattle.image.specs.Readable.{readable, Read, read, world-decode, world-readable}
 use Rattle.preservation.specs.Begun.{left-kept}
-use Rattle.journal.specs.Replays.{stepsIn, stepsOf, Played, played, unplayed, replayOn, resumeOn, beyond, rest-stops, whole-replay, rest-some}
+use Rattle.journal.specs.Replays.{stepsIn, stepsOf, played, unplayed, replayOn, resumeOn, beyond, rest-stops, whole-replay, rest-some}
 
 -- a replay leaves a readable world
 replay-kept : (w : World) (bs : List (List ℕ)) → wellFormed w ≡ true → wellFormed (replay w bs .world) ≡ true

@@ -1,26 +1,19 @@
 -- A fresh world is readable, and so is every world that a run reaches. Assumes nothing.
-use Prim.Native.Nat.{ℕ, zero, suc, _+_, _^_, _≤_, _<_}
+use Prim.Native.Nat.{ℕ, zero, suc, _≤_}
 use native.Mathlib.Omega.{arith}
-use mathlib.Core.Bool.{Bool, true, false}
-use mathlib.Core.Path.{_≡_, refl, sym, ap, subst, _∙_}
-use mathlib.Core.List.{List, [], _∷_}
-use lib.Dec.{leb, eqb}
-use lib.Pow.{pow-pos}
+use mathlib.Core.Bool.{true}
+use mathlib.Core.Path.{_≡_, refl, ap, subst, _∙_}
+use mathlib.Core.List.{List}
 use Rattle.protocol.specs.declared.View.{View}
-use Rattle.protocol.specs.declared.Server.{Server}
-use Rattle.protocol.specs.declared.Client.{Client}
-use Rattle.protocol.specs.declared.Message.{Message}
-use Rattle.protocol.specs.declared.Ending.{Ending}
-use Rattle.protocol.specs.Tools.{if, bitOf, holds, Result, refused, done, passed}
+use Rattle.protocol.specs.Tools.{bitOf, Result, refused, done, passed}
 use Rattle.protocol.specs.Sizes.{servers, clients, views, messages, sized}
-use Rattle.protocol.specs.Entries.{empty, same, entryFits}
-use Rattle.protocol.specs.Worlds.{World, noServer, noClient, noMessage, view, server, client, message, newest, freshWorld, fresh}
+use Rattle.protocol.specs.Entries.{same, entryFits}
+use Rattle.protocol.specs.Worlds.{World, noMessage, server, client, freshWorld, fresh}
 use Rattle.protocol.specs.Steps.{After, step}
-use Rattle.protocol.specs.Runs.{stepOf, stepBytes, left, Run, noted, run, runFrom}
-use Rattle.protocol.specs.Readable.{endingFits, lastView, viewFits, serverFits, clientFits, zeroMessage, messageFits, wellFormed}
-use Rattle.protocol.specs.Laws.Tests.{and-both, clash}
-use Rattle.protocol.specs.Laws.Fresh.{First, member-of, outside, first, used-none, views-count, servers-count, clients-count, messages-count, fresh-newest, fresh-view, fresh-settled, fresh-client, fresh-message, fresh-beyond}
-use Rattle.preservation.specs.Formed.{Formed, formed, well-formed}
+use Rattle.protocol.specs.Runs.{stepOf, stepBytes, left, run}
+use Rattle.protocol.specs.Readable.{endingFits, lastView, viewFits, serverFits, clientFits, zeroMessage, wellFormed}
+use Rattle.protocol.specs.Laws.Fresh.{First, member-of, outside, first, used-none, views-count, servers-count, clients-count, messages-count, fresh-newest, fresh-view, fresh-client, fresh-message, fresh-beyond}
+use Rattle.preservation.specs.Formed.{Formed, well-formed}
 use Rattle.preservation.specs.Updates.{is-mail, is-view}
 use Rattle.preservation.specs.Kept.{step-kept}
 

@@ -1,24 +1,22 @@
 -- The clause of a request's chain, and what it rests on. Assumes nothing.
 use Prim.Native.Nat.{ℕ, zero, suc, _+_, _≤_, _<_}
 use native.Mathlib.Nat.{le-refl}
-use native.Mathlib.Decide.{ℕ-discrete}
 use native.Mathlib.Omega.{arith}
 use mathlib.Core.Bool.{Bool, true, false, not, _&&_, _||_}
-use mathlib.Core.Path.{_≡_, refl, sym, ap, ap₂, subst, _∙_}
+use mathlib.Core.Path.{_≡_, refl, sym, ap, _∙_}
 use mathlib.Core.Logic.{_⊎_, inl, inr, _≢_}
 use mathlib.Core.List.{List, [], _∷_}
 use lib.ListN.{length}
-use lib.Dec.{ltb, leb, eqb}
-use borrow.Author.Tests.{eqb-true, eqb-false, eq-eqb, ne-eqb, not-true, not-false}
+use lib.Dec.{eqb}
+use borrow.Author.Tests.{eqb-true, eq-eqb, ne-eqb, not-true}
 use Rattle.protocol.specs.declared.MessageNumber.{MessageNumber}
-use Rattle.protocol.specs.declared.Message.{Message}
-use Rattle.protocol.specs.Tools.{if, bit, within, countTo, allTo, any, all}
+use Rattle.protocol.specs.Tools.{bit, within, countTo, allTo, any, all}
 use Rattle.protocol.specs.Sizes.{messages}
-use Rattle.protocol.specs.Servers.{READ, END, ANSWER, isRequest}
-use Rattle.protocol.specs.Worlds.{World, message, present}
+use Rattle.protocol.specs.Servers.{isRequest}
+use Rattle.protocol.specs.Worlds.{World, message}
 use Rattle.protocol.specs.Chains.{follow, chain}
 use Rattle.protocol.specs.Readable.{takenAnswer, distinct, ends, chainFits}
-use Rattle.protocol.specs.Laws.Tests.{and-left, and-right, and-both, or-cases, by-test, by-bool, clash, last-or, within-true, allTo-at}
+use Rattle.protocol.specs.Laws.Tests.{and-left, and-right, and-both, or-cases, by-bool, clash, last-or, within-true, allTo-at}
 use Rattle.preservation.specs.Formed.{all-to}
 
 -- "each chain holds only taken answers of its request, all of them, each one time", and it ends

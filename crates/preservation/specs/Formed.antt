@@ -1,32 +1,27 @@
 -- Readable worlds by their clauses, and what each clause rests on. Assumes nothing.
-use Prim.Native.Nat.{ℕ, zero, suc, _+_, _^_, _≤_, _<_}
+use Prim.Native.Nat.{ℕ, zero, suc, _≤_, _<_}
 use native.Mathlib.Nat.{le-refl}
 use native.Mathlib.Omega.{arith}
-use mathlib.Core.Bool.{Bool, true, false, not, _&&_, _||_}
-use mathlib.Core.Path.{_≡_, refl, sym, ap, subst, _∙_}
-use mathlib.Core.Logic.{_⊎_, inl, inr}
-use mathlib.Core.List.{List, [], _∷_}
+use mathlib.Core.Bool.{Bool, true, false, not, _&&_}
+use mathlib.Core.Path.{_≡_, refl, sym, ap, _∙_}
 use lib.ListN.{length}
 use lib.Dec.{ltb, leb, eqb}
-use lib.Pow.{pow-mono}
-use borrow.Author.Tests.{ltb-true, leb-true, eqb-true, eqb-false, leb-false, lt-ltb, le-leb, eq-eqb, ne-eqb, not-true}
+use borrow.Author.Tests.{ltb-true, leb-true, eqb-true, lt-ltb, le-leb, eq-eqb}
 use Rattle.protocol.specs.declared.ViewNumber.{ViewNumber}
-use Rattle.protocol.specs.declared.Entry.{Entry}
 use Rattle.protocol.specs.declared.Message.{Message}
 use Rattle.protocol.specs.declared.Client.{Client}
 use Rattle.protocol.specs.declared.Phase.{Phase}
 use Rattle.protocol.specs.declared.Phase.the-variants.{Idle, Reading, Writing}
 use Rattle.protocol.specs.declared.Ending.{Ending}
 use Rattle.protocol.specs.declared.Ending.the-variants.{Settled, EndSent}
-use Rattle.protocol.specs.Tools.{if, within, allTo, any, all}
+use Rattle.protocol.specs.Tools.{if, within, allTo}
 use Rattle.protocol.specs.Sizes.{clients, servers, views, messages}
-use Rattle.protocol.specs.Entries.{empty, same, entryFits}
-use Rattle.protocol.specs.Servers.{READ, WRITE, END, START, ANSWER, isRequest}
+use Rattle.protocol.specs.Entries.{same}
+use Rattle.protocol.specs.Servers.{READ, WRITE, END, ANSWER, isRequest}
 use Rattle.protocol.specs.Clients.{WRITES, READS}
-use Rattle.protocol.specs.Worlds.{World, view, server, client, message, newest, present}
-use Rattle.protocol.specs.Chains.{follow, chain}
-use Rattle.protocol.specs.Readable.{shape, isSent, endingFits, headerFits, lastView, viewFits, serverFits, phaseFits, clientFits, senderFits, viewTagFits, requestFits, nextFits, entryZero, sentFits, zeroMessage, messageFits, takenAnswer, distinct, ends, chainFits, wellFormed}
-use Rattle.protocol.specs.Laws.Tests.{and-left, and-right, and-both, or-cases, by-test, by-bool, clash, last-or, within-true, allTo-at}
+use Rattle.protocol.specs.Worlds.{World, view, client, message, newest, present}
+use Rattle.protocol.specs.Readable.{shape, isSent, endingFits, headerFits, viewFits, serverFits, phaseFits, clientFits, senderFits, viewTagFits, requestFits, sentFits, zeroMessage, messageFits, chainFits, wellFormed}
+use Rattle.protocol.specs.Laws.Tests.{and-left, and-right, and-both, within-true, allTo-at}
 use Rattle.protocol.specs.Laws.Worlds.{content, sent}
 
 pub all-to : (p : ℕ → Bool) (n : ℕ) → ((i : ℕ) → 1 ≤ i → i ≤ n → p i ≡ true) → allTo p n ≡ true

@@ -1,15 +1,14 @@
 -- Every accepted step keeps a world readable, and a fresh world is readable. Assumes nothing.
 use Prim.Native.Nat.{ℕ, zero, suc, _+_, _/_, _%_, _^_, _≤_, _<_}
 use native.Mathlib.Nat.{le-refl, div-eq-of-lt}
-use native.Mathlib.Decide.{ℕ-discrete, decLe}
+use native.Mathlib.Decide.{decLe}
 use native.Mathlib.Omega.{arith}
 use mathlib.Core.Bool.{Bool, true, false, not, _&&_, _||_}
 use mathlib.Core.Path.{_≡_, refl, sym, ap, subst, _∙_}
-use mathlib.Core.Logic.{_⊎_, inl, inr, _≢_}
+use mathlib.Core.Logic.{_⊎_, inl, inr}
 use mathlib.Core.List.{List, [], _∷_}
-use lib.ListN.{length}
 use lib.Dec.{ltb, leb, eqb}
-use lib.Bits.{bitOr, or-lt}
+use lib.Bits.{or-lt}
 use lib.Pow.{pow-pos, pow-lt, pow-mono}
 use borrow.Author.Tests.{ltb-true, leb-true, eqb-true, eqb-false, lt-ltb, le-leb, eq-eqb, ne-eqb, not-true}
 use Rattle.protocol.specs.declared.MessageNumber.{MessageNumber}
@@ -25,23 +24,23 @@ use Rattle.protocol.specs.declared.Phase.the-variants.{Idle, Reading, Writing}
 use Rattle.protocol.specs.declared.Administrator.{Administrator}
 use Rattle.protocol.specs.declared.Ending.{Ending}
 use Rattle.protocol.specs.declared.Ending.the-variants.{Settled, EndSent}
-use Rattle.protocol.specs.Tools.{if, within, all, any, holds, bitOf, Result, refused, done, guard, then, passed}
+use Rattle.protocol.specs.Tools.{if, within, all, holds, bitOf, Result, refused, done, guard, passed}
 use Rattle.protocol.specs.Sizes.{clients, servers, views, messages, lastCount, sized, writeSize}
 use Rattle.protocol.specs.Entries.{entry, empty, countOf, writerOf, larger, chosen, same, entryFits}
-use Rattle.protocol.specs.Servers.{READ, WRITE, END, START, ANSWER, isRequest, Reply, keeping, withoutKey, joining, gathering, serve, mayAnswer}
+use Rattle.protocol.specs.Servers.{READ, WRITE, END, START, ANSWER, isRequest, Reply, keeping, withoutKey, joining, gathering, mayAnswer}
 use Rattle.protocol.specs.Clients.{NONE, WRITES, READS, number, begin, closeSize, toWrite, countLeft, Close, closeBy, close, isEnding, endOf, requestOf, call, advance}
 use Rattle.protocol.specs.Worlds.{World, view, server, client, message, newest, member, present, room, withServer, withClient, withView, withMessage, withAdministrator, send, nextNumber}
 use Rattle.protocol.specs.Chains.{chain, tagged, enough, shown}
 use Rattle.protocol.specs.Steps.{After, moved, request, answer, answers, begins, deliver, link, open?, takenWith, closes, starts, takes, take, fault, source?, lie, newView, CLIENT, SERVER, VIEW, F, MESSAGE, SOURCE, VALUE, uses, field, fieldsFit, perform, step}
-use Rattle.protocol.specs.Readable.{isSent, endingFits, serverFits, phaseFits, clientFits, senderFits, viewTagFits, requestFits, nextFits, entryZero, sentFits, takenAnswer, wellFormed}
-use Rattle.protocol.specs.Laws.Tests.{and-left, and-right, and-both, or-cases, by-bool, clash, within-true, Went, went}
+use Rattle.protocol.specs.Readable.{isSent, serverFits, phaseFits, clientFits, senderFits, viewTagFits, requestFits, nextFits, entryZero, sentFits, takenAnswer, wellFormed}
+use Rattle.protocol.specs.Laws.Tests.{and-left, and-right, and-both, clash, within-true, went}
 use Rattle.protocol.specs.Laws.Entries.{larger-one, Listed, head, tail, chosen-one}
 use Rattle.protocol.specs.Laws.Worlds.{message-new}
 use Rattle.protocol.specs.Laws.Moves.{done-is, is-done, room-left, IsServer, Serving, reads, writes, ends, joins, gathers, serving}
 use Rattle.protocol.specs.Laws.Turns.{IsClient, client-of as who-client, server-of as who-server}
 use Rattle.preservation.specs.Formed.{is-within, Formed, formed, well-formed}
-use Rattle.preservation.specs.Chained.{Chained, chained, all-map}
-use Rattle.preservation.specs.Links.{Untaken, Is, taken-is}
+use Rattle.preservation.specs.Chained.{chained, all-map}
+use Rattle.preservation.specs.Links.{Untaken, taken-is}
 use Rattle.preservation.specs.Updates.{serverOk, mail-sent, request-of, present-is, clientOk, formed-server, formed-client, formed-send, formed-link, formed-raise, formed-call}
 
 -- ---- entries and keys

@@ -1,29 +1,28 @@
 -- Taking an answer keeps every chain: the answer becomes the head of its request's. Assumes nothing.
-use Prim.Native.Nat.{ℕ, zero, suc, _+_, _≤_, _<_}
-use native.Mathlib.Nat.{le-refl}
+use Prim.Native.Nat.{ℕ, suc, _+_, _≤_, _<_}
 use native.Mathlib.Decide.{ℕ-discrete, decLt}
 use native.Mathlib.Omega.{arith}
-use mathlib.Core.Bool.{Bool, true, false, not, _&&_, _||_}
-use mathlib.Core.Path.{_≡_, refl, sym, ap, ap₂, subst, _∙_}
+use mathlib.Core.Bool.{Bool, true, false, not, _||_}
+use mathlib.Core.Path.{_≡_, refl, sym, ap, subst, _∙_}
 use mathlib.Core.Logic.{_⊎_, inl, inr, _≢_}
-use mathlib.Core.List.{List, [], _∷_}
+use mathlib.Core.List.{List, _∷_}
 use lib.ListN.{length}
-use lib.Dec.{ltb, leb, eqb}
-use borrow.Author.Tests.{leb-true, eqb-true, eqb-false, eq-eqb, ne-eqb, not-true}
+use lib.Dec.{eqb}
+use borrow.Author.Tests.{eqb-true, eq-eqb}
 use Rattle.protocol.specs.declared.MessageNumber.{MessageNumber}
 use Rattle.protocol.specs.declared.Message.{Message}
-use Rattle.protocol.specs.Tools.{if, within, countTo, any, all}
+use Rattle.protocol.specs.Tools.{within, any, all}
 use Rattle.protocol.specs.Sizes.{messages}
-use Rattle.protocol.specs.Servers.{READ, END, ANSWER, isRequest}
+use Rattle.protocol.specs.Servers.{ANSWER, isRequest}
 use Rattle.protocol.specs.Worlds.{World, message, present, withMessage}
 use Rattle.protocol.specs.Chains.{follow, chain}
 use Rattle.protocol.specs.Steps.{link}
 use Rattle.protocol.specs.Readable.{takenAnswer, distinct}
-use Rattle.protocol.specs.Laws.Tests.{and-left, and-right, and-both, or-cases, by-bool, clash, within-true}
+use Rattle.protocol.specs.Laws.Tests.{and-left, and-right, and-both, by-bool, clash, within-true}
 use Rattle.protocol.specs.Laws.Worlds.{content, sent, message-same, message-other, message-out, sent-link}
-use Rattle.protocol.specs.Laws.Sound.{link-count, link-used, link-other, link-answer, link-taken, link-request, not-answer}
-use Rattle.preservation.specs.Formed.{and-then, is-within}
-use Rattle.preservation.specs.Chained.{Chained, all-member, all-map, outside, pigeons, count-lacks, count-lacks-two, follow-same, follow-step, follow-enough, follow-longer}
+use Rattle.protocol.specs.Laws.Sound.{link-used, link-other, link-answer, link-taken, link-request, not-answer}
+use Rattle.preservation.specs.Formed.{is-within}
+use Rattle.preservation.specs.Chained.{Chained, all-map, outside, pigeons, count-lacks, count-lacks-two, follow-same, follow-step, follow-enough, follow-longer}
 
 -- the answer k of w, not taken yet, to request r
 pub record Untaken (w : World) (k r : ℕ) : Type 0 where

@@ -1,40 +1,39 @@
 -- One record of a readable world replaced, or a message sent or taken: the world stays readable. Assumes nothing.
-use Prim.Native.Nat.{ℕ, zero, suc, _+_, _^_, _≤_, _<_}
+use Prim.Native.Nat.{ℕ, zero, _+_, _^_, _≤_, _<_}
 use native.Mathlib.Nat.{le-refl}
 use native.Mathlib.Decide.{ℕ-discrete, decLe}
 use native.Mathlib.Omega.{arith}
 use mathlib.Core.Bool.{Bool, true, false, not, _&&_, _||_}
 use mathlib.Core.Path.{_≡_, refl, sym, ap, ap₂, subst, _∙_}
 use mathlib.Core.Logic.{_⊎_, inl, inr, _≢_}
-use mathlib.Core.List.{List, [], _∷_}
+use mathlib.Core.List.{List, []}
 use lib.ListN.{length, length-set}
 use lib.Seq.{getD-set-other}
 use lib.Dec.{ltb, leb, eqb}
 use lib.Pow.{pow-mono}
-use borrow.Author.Tests.{ltb-true, leb-true, eqb-true, eqb-false, leb-false, lt-ltb, le-leb, lt-leb, eq-eqb, ne-eqb, not-true}
+use borrow.Author.Tests.{ltb-true, leb-true, lt-ltb, le-leb, lt-leb, eq-eqb}
 use Rattle.protocol.specs.declared.ViewNumber.{ViewNumber}
 use Rattle.protocol.specs.declared.MessageNumber.{MessageNumber}
 use Rattle.protocol.specs.declared.View.{View}
 use Rattle.protocol.specs.declared.Server.{Server}
 use Rattle.protocol.specs.declared.Client.{Client}
 use Rattle.protocol.specs.declared.Message.{Message}
-use Rattle.protocol.specs.declared.Phase.{Phase}
 use Rattle.protocol.specs.declared.Administrator.{Administrator}
 use Rattle.protocol.specs.declared.Ending.{Ending}
 use Rattle.protocol.specs.declared.Ending.the-variants.{Settled, EndSent}
-use Rattle.protocol.specs.Tools.{if, bit, within, any, all, bitOf, replace}
+use Rattle.protocol.specs.Tools.{if, within, all, bitOf, replace}
 use Rattle.protocol.specs.Sizes.{clients, servers, views, messages, sized}
 use Rattle.protocol.specs.Entries.{entryFits}
 use Rattle.protocol.specs.Servers.{READ, END, ANSWER, isRequest}
-use Rattle.protocol.specs.Clients.{number, isEnding, advance}
+use Rattle.protocol.specs.Clients.{number, advance}
 use Rattle.protocol.specs.Worlds.{World, noMessage, view, server, client, message, newest, present, withServer, withClient, withView, withMessage, withAdministrator, send}
 use Rattle.protocol.specs.Chains.{follow, chain}
 use Rattle.protocol.specs.Steps.{link}
-use Rattle.protocol.specs.Readable.{isSent, endingFits, lastView, viewFits, serverFits, phaseFits, clientFits, viewTagFits, requestFits, nextFits, entryZero, senderFits, sentFits, zeroMessage, messageFits, takenAnswer, distinct, chainFits, wellFormed}
-use Rattle.protocol.specs.Laws.Tests.{and-left, and-right, and-both, or-cases, by-bool, clash, last-or, within-true}
-use Rattle.protocol.specs.Laws.Worlds.{content, sent, length-replace, message-send, message-new, sent-send, sent-link, server-same, server-other, client-same, client-other, view-same, view-other}
-use Rattle.protocol.specs.Laws.Sound.{link-count, link-used, not-answer}
-use Rattle.preservation.specs.Formed.{and-first, and-then, is-within, Formed, Onward, ending-on, phase-on, sent-on, fits-on}
+use Rattle.protocol.specs.Readable.{isSent, endingFits, lastView, viewFits, serverFits, phaseFits, clientFits, viewTagFits, requestFits, nextFits, entryZero, senderFits, sentFits, zeroMessage, messageFits, takenAnswer, distinct}
+use Rattle.protocol.specs.Laws.Tests.{and-left, and-right, and-both, clash, within-true}
+use Rattle.protocol.specs.Laws.Worlds.{content, sent, length-replace, message-new, sent-send, sent-link, server-same, server-other, client-same, client-other, view-same, view-other}
+use Rattle.protocol.specs.Laws.Sound.{link-count, link-used}
+use Rattle.preservation.specs.Formed.{and-first, and-then, Formed, Onward, ending-on, phase-on, sent-on, fits-on}
 use Rattle.preservation.specs.Chained.{Chained, chained, chain-fits, all-map, follow-same}
 use Rattle.preservation.specs.Links.{Untaken, Is, taken-is, is-taken, Short, chained-of, link-taken-other, v-taken, v-kind, v-other, link-chained}
 

@@ -1,9 +1,9 @@
 -- The chain of a request's taken answers, and what the answers with one view show. Assumes nothing.
 use Prim.Native.Nat.{ℕ, zero, suc}
-use mathlib.Core.Bool.{Bool, true, false, _&&_}
-use mathlib.Core.List.{List, [], _∷_, map}
+use mathlib.Core.Bool.{Bool, _&&_}
+use mathlib.Core.List.{List, [], _∷_}
 use lib.Dec.{leb, eqb}
-use Rattle.protocol.specs.Types.{Entry, Message}
+use Rattle.protocol.specs.Types.{Entry}
 use Rattle.protocol.specs.Tools.{if, countTo, any}
 use Rattle.protocol.specs.Sizes.{servers, messages}
 use Rattle.protocol.specs.Worlds.{World, message}

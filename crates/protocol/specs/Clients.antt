@@ -2,11 +2,11 @@
 use Prim.Native.Nat.{ℕ, _+_}
 use mathlib.Core.Bool.{Bool, true, false, not, _&&_, _||_}
 use mathlib.Core.Option.{Option, none, some}
-use lib.Dec.{ltb, leb, eqb}
+use lib.Dec.{ltb, eqb}
 use Rattle.protocol.specs.Types.{MessageNumber, Entry, View, Phase, Idle, Reading, Writing, Client, Ending, Settled, EndSent, Administrator, Begun, BeginRefused, Began, Taken, Open, Closed, Closing, CloseRefused, WritesNext, Completed, Called, CallRefused, Calling}
 use Rattle.protocol.specs.Tools.{if, Result, refused, done, guard}
 use Rattle.protocol.specs.Sizes.{views, lastCount, sized, readSize, writeSize}
-use Rattle.protocol.specs.Entries.{entry, empty, countOf}
+use Rattle.protocol.specs.Entries.{entry, countOf}
 
 -- "kind u8 (0 none yet, 1 write, 2 read)"
 abbrev pub NONE : ℕ

@@ -1,15 +1,15 @@
 -- Readable worlds: document 01's sentence, clause by clause. Assumes nothing.
-use Prim.Native.Nat.{ℕ, suc, _+_, _/_, _^_}
-use mathlib.Core.Bool.{Bool, true, false, not, _&&_, _||_}
+use Prim.Native.Nat.{ℕ, suc, _+_, _^_}
+use mathlib.Core.Bool.{Bool, true, not, _&&_, _||_}
 use mathlib.Core.List.{List, [], _∷_}
 use lib.ListN.{length}
 use lib.Dec.{ltb, leb, eqb}
-use Rattle.protocol.specs.Types.{Entry, View, Server, Phase, Idle, Reading, Writing, Client, Ending, Settled, EndSent, Message}
-use Rattle.protocol.specs.Tools.{if, within, bit, allTo, countTo, any, all, bitOf}
+use Rattle.protocol.specs.Types.{Phase, Idle, Reading, Writing, Client, Ending, Settled, EndSent, Message}
+use Rattle.protocol.specs.Tools.{if, within, bit, allTo, any, all, bitOf}
 use Rattle.protocol.specs.Sizes.{clients, servers, views, messages, sized}
 use Rattle.protocol.specs.Entries.{empty, countOf, writerOf, same, entryFits}
 use Rattle.protocol.specs.Servers.{READ, WRITE, END, START, ANSWER, isRequest}
-use Rattle.protocol.specs.Clients.{NONE, WRITES, READS, isEnding, endOf}
+use Rattle.protocol.specs.Clients.{NONE, WRITES, READS, isEnding}
 use Rattle.protocol.specs.Worlds.{World, view, server, client, message, newest, present}
 use Rattle.protocol.specs.Chains.{follow, chain}
 

@@ -1,10 +1,10 @@
 -- Journals, runs and their operations. Assumes nothing.
-use Prim.Native.Nat.{ℕ, zero, suc, _+_, _*_}
-use mathlib.Core.Bool.{Bool, true, false, _&&_, _||_}
+use Prim.Native.Nat.{ℕ, _+_, _*_}
+use mathlib.Core.Bool.{Bool, _&&_, _||_}
 use mathlib.Core.Option.{Option, none, some}
 use mathlib.Core.List.{List, [], _∷_, _++_, map}
 use lib.ListN.{length, getD}
-use lib.Dec.{ltb, leb, eqb}
+use lib.Dec.{ltb, eqb}
 use Rattle.protocol.specs.Types.{Entry, Phase, Idle, Reading, Writing, Step}
 use Rattle.protocol.specs.Tools.{if, Result, refused, done, guard}
 use Rattle.protocol.specs.Entries.{empty}

@@ -1,8 +1,8 @@
 -- The rules of one server. Assumes nothing.
 use Prim.Native.Nat.{ℕ}
-use mathlib.Core.Bool.{Bool, true, false, not, _&&_}
+use mathlib.Core.Bool.{Bool, not, _&&_}
 use mathlib.Core.Option.{Option, none, some}
-use lib.Dec.{ltb, leb, eqb}
+use lib.Dec.{ltb, eqb}
 use lib.Bits.{bitOr}
 use Rattle.protocol.specs.Types.{Entry, Server, Message, Shown, Served, ServeRefused, Kept, Answered}
 use Rattle.protocol.specs.Tools.{if, within, holds, bitOf, Result, refused, done, guard}

@@ -3,14 +3,14 @@ use Prim.Native.Nat.{ℕ, _+_, _/_, _%_}
 use mathlib.Core.Bool.{Bool, true, false, not, _&&_, _||_}
 use mathlib.Core.Option.{Option, none, some}
 use mathlib.Core.List.{List, [], _∷_}
-use lib.ListN.{length, getD}
-use lib.Dec.{ltb, leb, eqb}
-use Rattle.protocol.specs.Types.{Entry, View, Server, Client, Message, Step, Shown}
-use Rattle.protocol.specs.Tools.{if, within, holds, Result, refused, done, guard, then}
+use lib.ListN.{getD}
+use lib.Dec.{eqb}
+use Rattle.protocol.specs.Types.{Entry, View, Server, Message, Step, Shown}
+use Rattle.protocol.specs.Tools.{if, within, Result, done, guard, then}
 use Rattle.protocol.specs.Sizes.{clients, servers, views, messages, lastCount, writeSize}
 use Rattle.protocol.specs.Entries.{empty, chosen}
-use Rattle.protocol.specs.Servers.{READ, WRITE, END, START, ANSWER, isRequest, Reply, serve, mayAnswer}
-use Rattle.protocol.specs.Clients.{WRITES, READS, number, begin, requestOf, closeSize, Close, close, endOf, call, advance}
+use Rattle.protocol.specs.Servers.{READ, WRITE, END, START, ANSWER, serve, mayAnswer}
+use Rattle.protocol.specs.Clients.{WRITES, READS, number, begin, requestOf, closeSize, close, endOf, call, advance}
 use Rattle.protocol.specs.Worlds.{World, view, server, client, message, newest, member, present, room, withServer, withClient, withView, withMessage, withAdministrator, send, nextNumber}
 use Rattle.protocol.specs.Chains.{chain, enough, shown}
 

@@ -1,10 +1,10 @@
 -- The world: header, views, servers, clients and every message sent. Assumes nothing.
 use Prim.Native.Nat.{ℕ, zero, suc, _+_}
-use mathlib.Core.Bool.{Bool, true, false, not, _&&_, _||_}
+use mathlib.Core.Bool.{Bool, false, _&&_}
 use mathlib.Core.List.{List, [], _∷_}
-use lib.ListN.{length, getD, set, replicate}
-use lib.Dec.{ltb, leb, eqb}
-use Rattle.protocol.specs.Types.{Entry, View, Server, Phase, Idle, Client, Settled, Administrator, Message}
+use lib.ListN.{getD, set, replicate}
+use lib.Dec.{ltb, leb}
+use Rattle.protocol.specs.Types.{View, Server, Idle, Client, Settled, Administrator, Message}
 use Rattle.protocol.specs.Tools.{if, countTo, allTo, within, holds, nth, replace, Result, done, guard}
 use Rattle.protocol.specs.Sizes.{clients, servers, views, messages, sized}
 use Rattle.protocol.specs.Entries.{empty}

@@ -1,6 +1,6 @@
 -- The rules of single machines, chosen by number. Assumes nothing.
 use Prim.Native.Nat.{ℕ}
-use mathlib.Core.Bool.{Bool, true, false, _&&_}
+use mathlib.Core.Bool.{Bool, false, _&&_}
 use mathlib.Core.Option.{none}
 use lib.Dec.{leb, eqb}
 use Rattle.protocol.specs.declared.Stamp.{Stamp}

@@ -1,27 +1,23 @@
 -- A client begins an operation on a readable image. Assumes nothing.
 use Prim.Native.Nat.{ℕ, _+_, _≤_, _<_}
 use native.Mathlib.Omega.{arith}
-use mathlib.Core.Bool.{Bool, true, false}
 use mathlib.Core.Path.{_≡_, refl, sym, ap, ap₂, _∙_}
 use mathlib.Core.List.{List}
-use borrow.Author.Tests.{lt-ltb, le-ltb}
 use Rattle.protocol.specs.declared.Client.{Client}
 use Rattle.protocol.specs.declared.Begun.{Begun}
 use Rattle.protocol.specs.declared.Begun.the-variants.{BeginRefused, Began}
-use Rattle.protocol.specs.declared.Message.{Message}
-use Rattle.protocol.specs.Tools.{Result, refused, done, guard, then}
-use Rattle.protocol.specs.Sizes.{clients, messages}
+use Rattle.protocol.specs.Tools.{guard}
+use Rattle.protocol.specs.Sizes.{clients}
 use Rattle.protocol.specs.Entries.{empty}
 use Rattle.protocol.specs.Servers.{READ}
 use Rattle.protocol.specs.Clients.{begin, begun}
-use Rattle.protocol.specs.Worlds.{World, client, room, withClient, send, nextNumber}
-use Rattle.protocol.specs.Steps.{After, moved, request, begins}
+use Rattle.protocol.specs.Worlds.{World, client, withClient, send, nextNumber}
+use Rattle.protocol.specs.Steps.{request, begins}
 use Rattle.codec.specs.Places.{usedAt, clientAt, putClient}
-use Rattle.codec.specs.Images.{encode, decode}
-use Rattle.codec.specs.Laws.{put-client, put-send, full-client, used-decode}
+use Rattle.codec.specs.Images.{decode}
 use Rattle.world.specs.declared.Stepped.the-variants.{StepRefused, StepDone}
 use Rattle.world.specs.Images.{Legible, Does, putSent}
-use Rattle.world.specs.Stored.{refuses, does, used-is, client-is, Image, image-of, with-client, with-sent, room-yes, room-no}
+use Rattle.world.specs.Stored.{refuses, does, used-is, client-is, image-of, with-client, with-sent, room-yes, room-no}
 
 kept-used : (w : World) (c : ℕ) (x : Client) (u : ℕ) → u ≡ w .used → u + 1 ≡ withClient w c x .used + 1
 unfolding withClient

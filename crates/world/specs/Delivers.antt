@@ -1,9 +1,9 @@
 -- Steps of a server on a readable image. Assumes nothing.
 use Prim.Native.Nat.{ℕ, _+_, _≤_, _<_}
 use native.Mathlib.Omega.{arith}
-use mathlib.Core.Bool.{Bool, true, false, not, _&&_, _||_}
-use mathlib.Core.Option.{Option, none, some}
-use mathlib.Core.Path.{_≡_, refl, sym, ap, ap₂, subst, _∙_}
+use mathlib.Core.Bool.{Bool, true, false, not, _&&_}
+use mathlib.Core.Option.{some}
+use mathlib.Core.Path.{_≡_, refl, sym, ap, ap₂, _∙_}
 use mathlib.Core.List.{List}
 use lib.Dec.{eqb, leb}
 use borrow.Author.Tests.{eqb-true, eq-eqb, ne-eqb}
@@ -16,21 +16,18 @@ use Rattle.protocol.specs.Tools.{if, within, holds, nth, Result, refused, done,
 use Rattle.protocol.specs.Sizes.{servers, views, messages}
 use Rattle.protocol.specs.Entries.{empty}
 use Rattle.protocol.specs.Servers.{WRITE, START, isRequest, serve, mayAnswer}
-use Rattle.protocol.specs.Worlds.{World, view, server, message, newest, member, present, room, withServer, send}
-use Rattle.protocol.specs.Steps.{After, moved, answer, answers, deliver, fault, source?, lie}
-use Rattle.protocol.specs.Readable.{viewTagFits}
+use Rattle.protocol.specs.Worlds.{World, view, server, message, newest, member, present, withServer, send}
+use Rattle.protocol.specs.Steps.{After, answer, answers, deliver, fault, source?, lie}
 use Rattle.protocol.specs.Laws.Tests.{within-true}
 use Rattle.protocol.specs.Laws.Bits.{holds-none}
 use Rattle.codec.specs.Places.{usedAt, viewAt, serverAt, messageAt, putServer}
-use Rattle.codec.specs.Images.{encode, decode}
+use Rattle.codec.specs.Images.{decode}
 use Rattle.machines.specs.Servers.{shownBy, serveIn, serve-in, after, replying, refused-by, serve-done}
-use Rattle.preservation.specs.Formed.{Formed}
-use Rattle.preservation.specs.Updates.{present-is, mail-sent}
-use Rattle.preservation.specs.Kept.{Mailed, mailed}
-use Rattle.world.specs.declared.Stepped.{Stepped}
+use Rattle.preservation.specs.Updates.{present-is}
+use Rattle.preservation.specs.Kept.{mailed}
 use Rattle.world.specs.declared.Stepped.the-variants.{StepRefused, StepDone}
 use Rattle.world.specs.Images.{Legible, Does, putSent}
-use Rattle.world.specs.Stored.{refuses, does, whole, used-is, view-is, server-is, message-is, Image, image-of, with-server, with-sent, room-yes, room-no}
+use Rattle.world.specs.Stored.{refuses, does, whole, used-is, view-is, server-is, message-is, image-of, with-server, with-sent, room-yes, room-no}
 
 kept-used : (w : World) (s : ℕ) (b : Server) (u : ℕ) → u ≡ w .used → u + 1 ≡ withServer w s b .used + 1
 unfolding withServer

@@ -1,16 +1,15 @@
 -- A step's answer and the image that it leaves. Assumes nothing.
-use Prim.Native.Nat.{ℕ, _+_}
-use mathlib.Core.Bool.{Bool, true, false}
+use Prim.Native.Nat.{ℕ}
+use mathlib.Core.Bool.{true}
 use mathlib.Core.Path.{_≡_}
 use mathlib.Core.List.{List}
 use lib.ListN.{length}
 use Rattle.protocol.specs.declared.Message.{Message}
 use Rattle.protocol.specs.Tools.{Result, refused, done}
-use Rattle.protocol.specs.Worlds.{World}
 use Rattle.protocol.specs.Steps.{After}
 use Rattle.protocol.specs.Readable.{wellFormed}
 use Rattle.codec.specs.Layout.{imageSize}
-use Rattle.codec.specs.Places.{usedAt, putUsed, messageAt, putMessage}
+use Rattle.codec.specs.Places.{putUsed, putMessage}
 use Rattle.codec.specs.Images.{encode, decode}
 pub use Rattle.consistency.specs.Steps.{leftBy, answered}
 use Rattle.world.specs.declared.Stepped.{Stepped}

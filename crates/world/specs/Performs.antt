@@ -1,24 +1,22 @@
 -- A step on a readable image, by its kind, and on any image. Assumes nothing.
-use Prim.Native.Nat.{ℕ, _+_, _≤_, _<_}
-use mathlib.Core.Bool.{Bool, true, false, _&&_}
-use mathlib.Core.Path.{_≡_, refl, sym, ap, subst, _∙_}
+use Prim.Native.Nat.{ℕ}
+use mathlib.Core.Bool.{true, false}
+use mathlib.Core.Path.{_≡_, refl, sym, ap}
 use mathlib.Core.List.{List}
 use lib.ListN.{length}
 use lib.Dec.{eqb}
 use borrow.Author.Tests.{eq-eqb, ne-eqb}
-use Rattle.protocol.specs.declared.View.{View}
 use Rattle.protocol.specs.declared.Step.{Step}
-use Rattle.protocol.specs.Tools.{Result, refused, done, guard}
+use Rattle.protocol.specs.Tools.{guard}
 use Rattle.protocol.specs.Clients.{WRITES, READS}
 use Rattle.protocol.specs.Worlds.{World}
-use Rattle.protocol.specs.Steps.{After, begins, deliver, take, fault, lie, newView, fieldsFit, perform, step}
+use Rattle.protocol.specs.Steps.{begins, deliver, take, fault, lie, newView, fieldsFit, perform, step}
 use Rattle.protocol.specs.Runs.{stepWidth, stepOf}
 use Rattle.codec.specs.Layout.{imageSize}
-use Rattle.codec.specs.Images.{encode, decode}
-use Rattle.image.specs.Readable.{readable, Read, read}
+use Rattle.codec.specs.Images.{decode}
+use Rattle.image.specs.Readable.{readable, read}
 use Rattle.consistency.specs.Steps.{stepOn}
-use Rattle.world.specs.declared.Stepped.{Stepped}
-use Rattle.world.specs.declared.Stepped.the-variants.{StepRefused, StepDone}
+use Rattle.world.specs.declared.Stepped.the-variants.{StepRefused}
 use Rattle.world.specs.Images.{Legible, Does}
 use Rattle.world.specs.Stored.{refuses}
 

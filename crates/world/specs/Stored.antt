@@ -1,8 +1,8 @@
 -- What the records of a readable image are, and what storing them makes of it. Assumes nothing.
 use Prim.Native.Nat.{ℕ, _+_, _≤_, _<_}
 use native.Mathlib.Omega.{arith}
-use mathlib.Core.Bool.{Bool, true, false}
-use mathlib.Core.Path.{_≡_, refl, sym, ap, subst, _∙_}
+use mathlib.Core.Bool.{true, false}
+use mathlib.Core.Path.{_≡_, sym, ap, subst, _∙_}
 use mathlib.Core.List.{List}
 use lib.ListN.{length}
 use borrow.Author.Tests.{lt-ltb, le-ltb}
@@ -13,15 +13,15 @@ use Rattle.protocol.specs.declared.Message.{Message}
 use Rattle.protocol.specs.declared.Administrator.{Administrator}
 use Rattle.protocol.specs.Tools.{Result, refused, done}
 use Rattle.protocol.specs.Sizes.{clients, servers, views, messages}
-use Rattle.protocol.specs.Worlds.{World, view, server, client, message, newest, room, withServer, withClient, withView, withMessage, withAdministrator, send}
-use Rattle.protocol.specs.Steps.{After, moved}
+use Rattle.protocol.specs.Worlds.{World, view, server, client, message, room, withServer, withClient, withView, withMessage, withAdministrator, send}
+use Rattle.protocol.specs.Steps.{After}
 use Rattle.codec.specs.Layout.{imageSize}
 use Rattle.codec.specs.Places.{usedAt, putUsed, administratorAt, putAdministrator, viewAt, putView, serverAt, putServer, clientAt, putClient, messageAt, putMessage}
 use Rattle.codec.specs.Images.{encode, decode}
 use Rattle.codec.specs.Laws.{Full, length-encode, put-view, put-server, put-client, put-message, put-administrator, put-send, full-view, full-server, full-client, full-message, full-administrator, full-send, used-decode, administrator-decode, decode-full, view-decode, server-decode, client-decode, message-decode}
 use Rattle.preservation.specs.Formed.{Formed, formed}
 use Rattle.world.specs.declared.Stepped.{Stepped}
-use Rattle.world.specs.declared.Stepped.the-variants.{StepRefused, StepDone}
+use Rattle.world.specs.declared.Stepped.the-variants.{StepDone}
 use Rattle.world.specs.Images.{stepped, answered, leftBy, Legible, Does, putSent}
 
 -- a refusal

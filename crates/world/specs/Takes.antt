@@ -40,8 +40,7 @@ use Rattle.preservation.specs.Updates.{mail-sent, request-of, present-is}
 use Rattle.codec.specs.Places.{putAdministrator, usedAt, viewAt, clientAt, putClient, messageAt, putMessage}
 use Rattle.codec.specs.Images.{encode, decode}
 use Rattle.codec.specs.Laws.{Full, decode-full, full-message}
-use Rattle.world.specs.declared.Stepped.{Stepped}
-use Rattle.world.specs.Images.{Legible, Does, putSent}
+use Rattle.world.specs.Images.{Legible, putSent}
 use Rattle.world.specs.Stored.{Image, image-of, whole, used-is, view-is, client-is, message-is, room-none, room-some}
 use Rattle.world.specs.Puts.{message-put, client-put, administrator-put, sent-put}
 

@@ -1,10 +1,9 @@
 -- A new view on the image of a readable world. Assumes nothing.
 use Prim.Native.Nat.{ℕ, _+_, _≤_, _<_}
 use native.Mathlib.Omega.{arith}
-use mathlib.Core.Bool.{true, false}
 use mathlib.Core.Path.{_≡_, ap, _∙_}
 use mathlib.Core.List.{List}
-use borrow.Author.Tests.{ltb-true, lt-ltb, le-ltb}
+use borrow.Author.Tests.{ltb-true}
 use Rattle.protocol.specs.declared.View.{View}
 use Rattle.protocol.specs.declared.Administrator.{Administrator}
 use Rattle.protocol.specs.declared.Entry.{Entry}
@@ -14,7 +13,7 @@ use Rattle.protocol.specs.Sizes.{views, messages, sized}
 use Rattle.protocol.specs.Entries.{empty}
 use Rattle.protocol.specs.Servers.{END}
 use Rattle.protocol.specs.Clients.{call}
-use Rattle.protocol.specs.Worlds.{World, newest, room, withView, withAdministrator, send, nextNumber}
+use Rattle.protocol.specs.Worlds.{World, newest, withView, withAdministrator, send, nextNumber}
 use Rattle.protocol.specs.Steps.{request, newView}
 use Rattle.protocol.specs.Laws.Tests.{and-right}
 use Rattle.codec.specs.Places.{usedAt, administratorAt, putAdministrator, putView}

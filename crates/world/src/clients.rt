@@ -1,5 +1,4 @@
 // A client begins an operation.
-ghost use mathlib.Core.Path.{_≡_};
 ghost use Prim.Native.Nat.{_≤_};
 ghost use Rattle.protocol.specs.Sizes.{clients};
 ghost use Rattle.protocol.specs.Steps.{begins as beginsOn};

@@ -7,7 +7,7 @@ ghost use Rattle.protocol.specs.Worlds.{present as isPresent};
 ghost use Rattle.protocol.specs.Steps.{request as requestOf, answer as answerOf};
 ghost use Rattle.codec.specs.Layout.{imageSize};
 ghost use Rattle.codec.specs.Images.{decode};
-ghost use Rattle.world.specs.Images.{Legible, putSent};
+ghost use Rattle.world.specs.Images.{putSent};
 use codec::places::load_used;
 use codec::places::store_message;
 use codec::places::store_used;

@@ -1,4 +1,4 @@
-use mathlib.Core.Path.{_≡_, sym, ap, _∙_}
+use mathlib.Core.Path.{sym}
 use borrow.Author.Needs.{needs}
 use Rattle.exports.proofs.zw_premise.Statement.{statement}
 use Rattle.exports.proofs.zw_premise.Tie as tie

@@ -1,5 +1,4 @@
-use mathlib.Core.Path.{_≡_, sym, ap, _∙_}
-use Rattle.exports.specs.Answers.{packed}
+use mathlib.Core.Path.{sym}
 use borrow.Author.Needs.{needs}
 use Rattle.exports.proofs.zw_quorum.Statement.{statement}
 use Rattle.exports.proofs.zw_quorum.Tie as tie

@@ -1,14 +1,14 @@
 -- Sets of numbers as bits. Assumes nothing.
-use Prim.Native.Nat.{ℕ, zero, suc, _+_, _*_, _-_, _/_, _%_, _^_, _≤_, _<_, max}
+use Prim.Native.Nat.{ℕ, zero, suc, _+_, _-_, _/_, _%_, _^_, _≤_, _<_, max}
 use native.Mathlib.Nat.{div-eq-of-lt, div-self, mul-div-cancel-left, mul-mod-left, pow-suc, zero-div}
-use native.Mathlib.Decide.{decLt, ℕ-discrete}
+use native.Mathlib.Decide.{decLt}
 use native.Mathlib.Omega.{arith}
-use mathlib.Core.Bool.{Bool, true, false, _||_}
-use mathlib.Core.Path.{_≡_, refl, sym, ap, _∙_}
+use mathlib.Core.Bool.{true, false, _||_}
+use mathlib.Core.Path.{_≡_, refl, sym, _∙_}
 use lib.Dec.{eqb}
 use lib.Pow.{pow-pos, pow-lt, pow-add}
 use lib.Bits.{bitOr, or-shr, or-step}
-use borrow.Author.Tests.{eqb-true, eq-eqb}
+use borrow.Author.Tests.{eqb-true}
 use Rattle.protocol.specs.Tools.{holds, bitOf}
 use Rattle.protocol.specs.Laws.Tests.{clash}
 

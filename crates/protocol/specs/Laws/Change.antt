@@ -1,10 +1,10 @@
 -- What every accepted step does to a world, in one statement: the invariants of runs are proved from it, and look at no step.
 -- Assumes nothing.
-use Prim.Native.Nat.{ℕ, zero, suc, _+_, _≤_, _<_}
+use Prim.Native.Nat.{ℕ, _+_, _≤_}
 use mathlib.Core.Bool.{Bool, true, false, _&&_}
 use mathlib.Core.Path.{_≡_}
 use mathlib.Core.Logic.{_⊎_}
-use Rattle.protocol.specs.Types.{Entry, Server, Client, Message, Idle, Reading, Writing}
+use Rattle.protocol.specs.Types.{Entry, Server, Message, Idle, Reading, Writing}
 use Rattle.protocol.specs.Tools.{countTo, holds}
 use Rattle.protocol.specs.Sizes.{servers, readSize, writeSize}
 use Rattle.protocol.specs.Entries.{empty}

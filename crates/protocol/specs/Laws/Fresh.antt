@@ -1,16 +1,16 @@
 -- What a fresh world holds. Assumes nothing.
 use Prim.Native.Nat.{ℕ, zero, suc, _≤_}
 use native.Mathlib.Omega.{arith}
-use mathlib.Core.Bool.{Bool, true, false}
+use mathlib.Core.Bool.{true, false}
 use mathlib.Core.Path.{_≡_, refl, ap, _∙_}
 use mathlib.Core.Logic.{_⊎_, inl, inr}
 use lib.ListN.{length, getD, replicate, length-replicate}
-use Rattle.protocol.specs.Types.{View, Server, Client, Message}
-use Rattle.protocol.specs.Tools.{if, holds, nth}
+use Rattle.protocol.specs.Types.{View, Server}
+use Rattle.protocol.specs.Tools.{holds, nth}
 use Rattle.protocol.specs.Sizes.{servers, clients, views, messages}
 use Rattle.protocol.specs.Entries.{empty}
 use Rattle.protocol.specs.Clients.{isEnding}
-use Rattle.protocol.specs.Worlds.{World, noView, noServer, noClient, noMessage, view, server, client, message, newest, freshServer, listTo, freshWorld}
+use Rattle.protocol.specs.Worlds.{noView, noServer, noClient, noMessage, view, server, client, message, newest, freshServer, listTo, freshWorld}
 use Rattle.protocol.specs.Laws.Tests.{by-bool}
 
 getD-listTo : {A : Type 0} (g : ℕ → A) (n k : ℕ) (d : A) → (getD (listTo g n) k d ≡ g (suc k)) ⊎ (getD (listTo g n) k d ≡ d)

@@ -1,31 +1,29 @@
 -- Every accepted step of a server or of the host satisfies the relation: deliver, fault, false answer. Assumes nothing.
-use Prim.Native.Nat.{ℕ, zero, suc, _+_, _≤_, _<_}
+use Prim.Native.Nat.{ℕ, _+_, _≤_, _<_}
 use native.Mathlib.Nat.{le-refl}
 use native.Mathlib.Decide.{ℕ-discrete}
 use native.Mathlib.Omega.{arith}
 use mathlib.Core.Bool.{Bool, true, false, not, _&&_, _||_}
-use mathlib.Core.Option.{Option, none, some}
+use mathlib.Core.Option.{none}
 use mathlib.Core.Path.{_≡_, refl, sym, ap, _∙_, subst}
 use mathlib.Core.Logic.{_⊎_, inl, inr, _≢_}
-use mathlib.Core.List.{List, [], _∷_}
 use lib.ListN.{length}
-use lib.Dec.{ltb, leb, eqb}
-use lib.Bits.{bitOr}
-use borrow.Author.Tests.{ltb-true, leb-true, eqb-true, eqb-false, eq-eqb, not-true}
-use Rattle.protocol.specs.Types.{Entry, View, Server, Client, Message, Shown}
-use Rattle.protocol.specs.Tools.{if, within, holds, bitOf, Result, refused, done, guard, then, passed}
+use lib.Dec.{eqb}
+use borrow.Author.Tests.{ltb-true, eqb-true, eqb-false, not-true}
+use Rattle.protocol.specs.Types.{Entry, Server, Message, Shown}
+use Rattle.protocol.specs.Tools.{if, within, holds, bitOf, done, guard, then, passed}
 use Rattle.protocol.specs.Sizes.{servers, messages}
-use Rattle.protocol.specs.Entries.{empty, larger}
+use Rattle.protocol.specs.Entries.{empty}
 use Rattle.protocol.specs.Servers.{READ, WRITE, END, START, ANSWER, isRequest, Reply, answering, keeping, withoutKey, joining, gathering, read, write, end, start, serve, mayAnswer}
 use Rattle.protocol.specs.Clients.{number}
 use Rattle.protocol.specs.Worlds.{World, view, server, client, message, newest, member, present, room, withServer, send}
 use Rattle.protocol.specs.Steps.{After, moved, answer, answers, deliver, fault, source?, lie}
-use Rattle.protocol.specs.Laws.Tests.{and-left, and-right, and-both, or-cases, by-test, clash, within-true, Went, went}
+use Rattle.protocol.specs.Laws.Tests.{and-left, and-right, and-both, or-cases, by-test, clash, within-true, went}
 use Rattle.protocol.specs.Laws.Bits.{holds-bitOf, holds-or, holds-none}
 use Rattle.protocol.specs.Laws.Entries.{_≼_, ≼-refl, larger-left, larger-right, larger-one}
 use Rattle.protocol.specs.Laws.Worlds.{content, sent, sent-send, message-new, server-same, server-other, length-replace}
-use Rattle.protocol.specs.Laws.Change.{lying, Sent, Joined, stay, join, Given, Carried, written, begun, Grew, Honest, Asked, Shows, nothing, old, its, Said, Acted, same, New, Posted, none as unsent, one, Change, Moved}
-use Rattle.protocol.specs.Laws.Sound.{Mail, Sized, Sound, mail-same, mail-send, sized-same, sound-send, asked-on, Later}
+use Rattle.protocol.specs.Laws.Change.{Sent, stay, join, Given, Carried, written, begun, Grew, Honest, Asked, Shows, nothing, old, its, Said, Acted, same, New, Posted, none as unsent, one, Change, Moved}
+use Rattle.protocol.specs.Laws.Sound.{Mail, Sound, mail-same, sized-same, sound-send, asked-on}
 
 -- ---- forms that the steps share
 

@@ -1,15 +1,15 @@
 -- The laws of the sizes, and document 01's marked sizes. Assumes nothing.
-use Prim.Native.Nat.{ℕ, zero, suc, _+_, _*_, _≤_, _<_}
+use Prim.Native.Nat.{ℕ, _+_, _*_, _≤_}
 use native.Mathlib.Omega.{arith}
-use mathlib.Core.Bool.{Bool, true, false, _&&_}
+use mathlib.Core.Bool.{true}
 use mathlib.Core.Path.{_≡_, refl}
-use mathlib.Core.List.{List, [], _∷_, map}
+use mathlib.Core.List.{[], _∷_, map}
 use lib.Dec.{ltb, leb}
-use borrow.Author.Tests.{leb-true, ltb-true}
+use borrow.Author.Tests.{leb-true}
 use Rattle.protocol.specs.Types.{View}
-use Rattle.protocol.specs.Tools.{Result, refused, done, guard}
+use Rattle.protocol.specs.Tools.{refused, done, guard}
 use Rattle.protocol.specs.Sizes.{quorum, quorumSize, size, sized, readSize, writeSize}
-use Rattle.protocol.specs.Laws.Tests.{and-left, and-right}
+use Rattle.protocol.specs.Laws.Tests.{and-right}
 
 -- a size of document 01's list: n, f
 record Pair : Type 0 where

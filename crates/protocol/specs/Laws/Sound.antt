@@ -4,26 +4,26 @@ use Prim.Native.Nat.{ℕ, zero, suc, _+_, _≤_, _<_}
 use native.Mathlib.Decide.{ℕ-discrete}
 use native.Mathlib.Numerals.{add-one}
 use native.Mathlib.Omega.{arith}
-use mathlib.Core.Bool.{Bool, true, false, not, _&&_}
-use mathlib.Core.Path.{_≡_, refl, sym, ap, _∙_, subst}
+use mathlib.Core.Bool.{Bool, true, false, _&&_}
+use mathlib.Core.Path.{_≡_, refl, ap, _∙_}
 use mathlib.Core.Logic.{_⊎_, inl, inr, _≢_}
 use mathlib.Core.List.{List, [], _∷_}
 use lib.ListN.{length, length-set}
-use lib.Dec.{leb, eqb}
+use lib.Dec.{eqb}
 use borrow.Author.Tests.{leb-true, eqb-true, eq-eqb, ne-eqb}
-use Rattle.protocol.specs.Types.{Entry, View, Server, Client, Message, Administrator, Settled, EndSent}
-use Rattle.protocol.specs.Tools.{if, countTo, any, within}
+use Rattle.protocol.specs.Types.{Entry, Message}
+use Rattle.protocol.specs.Tools.{if}
 use Rattle.protocol.specs.Sizes.{clients, servers, views, messages, sized}
 use Rattle.protocol.specs.Entries.{chosen}
 use Rattle.protocol.specs.Servers.{READ, END, ANSWER, isRequest}
-use Rattle.protocol.specs.Clients.{number, isEnding, advance}
-use Rattle.protocol.specs.Worlds.{World, view, server, client, message, newest, present, room, withServer, withClient, withView, withMessage, withAdministrator, send}
+use Rattle.protocol.specs.Clients.{number, isEnding}
+use Rattle.protocol.specs.Worlds.{World, view, message, newest, withMessage, send}
 use Rattle.protocol.specs.Chains.{follow, chain, tagged, heard, enough, shown}
 use Rattle.protocol.specs.Steps.{link, takenWith}
-use Rattle.protocol.specs.Laws.Tests.{and-left, and-right, by-bool, clash, last-or, Each, none, both, Found, any-found, within-true}
-use Rattle.protocol.specs.Laws.Entries.{_≼_, Listed, head, tail, chosen-le, chosen-one}
-use Rattle.protocol.specs.Laws.Worlds.{length-replace, content, sent, message-same, message-other, sent-link, sent-send, message-send, message-new, view-other, view-same}
-use Rattle.protocol.specs.Laws.Change.{Vote, Votes, To, Chosen, Asked}
+use Rattle.protocol.specs.Laws.Tests.{and-left, and-right, clash, last-or, Each, none, both, any-found, within-true}
+use Rattle.protocol.specs.Laws.Entries.{Listed, head, tail, chosen-le, chosen-one}
+use Rattle.protocol.specs.Laws.Worlds.{content, sent, message-same, message-other, sent-link, sent-send, message-send, message-new}
+use Rattle.protocol.specs.Laws.Change.{Votes, To, Chosen, Asked}
 
 -- message k is an answer to request r
 pub record Answer (w : World) (r k : ℕ) : Type 0 where

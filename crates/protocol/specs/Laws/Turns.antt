@@ -1,29 +1,28 @@
 -- Every accepted step of a client or of the administrator satisfies the relation: write, read, take, new view; so every
 -- accepted step does. Assumes nothing.
 use Prim.Native.Nat.{ℕ, zero, suc, _+_, _≤_, _<_}
-use native.Mathlib.Nat.{le-refl}
 use native.Mathlib.Decide.{ℕ-discrete, decLe}
 use native.Mathlib.Omega.{arith}
 use mathlib.Core.Bool.{Bool, true, false, not, _&&_, _||_}
 use mathlib.Core.Path.{_≡_, refl, sym, ap, _∙_, subst}
 use mathlib.Core.Logic.{_⊎_, inl, inr, _≢_}
-use mathlib.Core.List.{List, [], _∷_}
+use mathlib.Core.List.{List}
 use lib.ListN.{length, List·getD-eq-default}
-use lib.Dec.{ltb, leb, eqb}
-use borrow.Author.Tests.{ltb-true, leb-true, eqb-true, eqb-false, eq-eqb, not-true}
-use Rattle.protocol.specs.Types.{ViewNumber, Entry, View, Server, Phase, Idle, Reading, Writing, Client, Administrator, Ending, Settled, EndSent, Message, Step}
-use Rattle.protocol.specs.Tools.{if, within, nth, Result, refused, done, guard, then, passed}
+use lib.Dec.{eqb}
+use borrow.Author.Tests.{ltb-true, eqb-true}
+use Rattle.protocol.specs.Types.{ViewNumber, Entry, View, Phase, Idle, Reading, Writing, Client, Administrator, Ending, Settled, EndSent, Message, Step}
+use Rattle.protocol.specs.Tools.{if, within, nth, Result, refused, done, guard, passed}
 use Rattle.protocol.specs.Sizes.{clients, servers, views, messages, sized, readSize, writeSize}
 use Rattle.protocol.specs.Entries.{entry, empty, chosen}
-use Rattle.protocol.specs.Servers.{READ, WRITE, END, START, ANSWER, isRequest}
-use Rattle.protocol.specs.Clients.{WRITES, READS, number, isIdle, requestOf, begin, closeSize, toWrite, countLeft, Close, closeBy, close, isEnding, endOf, call, advance}
+use Rattle.protocol.specs.Servers.{READ, WRITE, END, START, ANSWER}
+use Rattle.protocol.specs.Clients.{WRITES, READS, number, isIdle, requestOf, begin, closeSize, toWrite, Close, closeBy, close, isEnding, endOf, call, advance}
 use Rattle.protocol.specs.Worlds.{World, noClient, view, server, client, message, newest, present, room, withClient, withView, withMessage, withAdministrator, send, nextNumber}
 use Rattle.protocol.specs.Chains.{enough, shown}
 use Rattle.protocol.specs.Steps.{After, moved, request, begins, link, open?, takenWith, closes, starts, takes, take, newView, deliver, fault, lie, fieldsFit, CLIENT, SERVER, uses, field, perform, step}
-use Rattle.protocol.specs.Laws.Tests.{and-left, and-right, or-cases, by-test, by-bool, clash, within-true, Went, went}
+use Rattle.protocol.specs.Laws.Tests.{and-left, and-right, or-cases, clash, within-true, went}
 use Rattle.protocol.specs.Laws.Worlds.{content, sent, sent-link, client-same, client-other, view-same, view-other, length-replace}
-use Rattle.protocol.specs.Laws.Change.{Votes, To, Chosen, Sent, Asked, Started, Closed, Kept, Acted, same, began, wrote, ended, Writer, New, Posted, none as unsent, Change, Moved}
-use Rattle.protocol.specs.Laws.Sound.{Mail, Sized, Sound, Answer, mail-same, mail-link, sized-same, sound-send, Taking, close-votes, close-chosen, link-count}
+use Rattle.protocol.specs.Laws.Change.{Votes, To, Chosen, Started, Closed, Kept, Acted, same, began, wrote, ended, New, none as unsent}
+use Rattle.protocol.specs.Laws.Sound.{Sized, Sound, mail-same, mail-link, sized-same, sound-send, Taking, close-votes, close-chosen, link-count}
 use Rattle.protocol.specs.Laws.Moves.{done-is, apart, is-done, grew-refl, Post, post, posted, quiet, idle-acted, room-left, present-is, Lawful, IsServer, fault-lawful, deliver-lawful, lie-lawful}
 
 -- a client's number

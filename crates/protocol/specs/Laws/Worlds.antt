@@ -2,16 +2,16 @@
 use Prim.Native.Nat.{ℕ, zero, suc, _+_, _≤_, _<_}
 use native.Mathlib.Decide.{ℕ-discrete, decLt}
 use native.Mathlib.Omega.{arith}
-use mathlib.Core.Bool.{Bool, true, false}
+use mathlib.Core.Bool.{true, false}
 use mathlib.Core.Path.{_≡_, refl, sym, ap, _∙_}
-use mathlib.Core.Logic.{_⊎_, inl, inr, _≢_}
-use mathlib.Core.List.{List, [], _∷_}
-use lib.ListN.{length, getD, set, length-set}
+use mathlib.Core.Logic.{_≢_}
+use mathlib.Core.List.{List}
+use lib.ListN.{length, length-set}
 use lib.Seq.{getD-set-same, getD-set-other, set-out}
 use Rattle.protocol.specs.Types.{Server, Client, View, Message}
 use Rattle.protocol.specs.Tools.{nth, replace}
 use Rattle.protocol.specs.Clients.{number}
-use Rattle.protocol.specs.Worlds.{World, noMessage, server, client, view, message, withServer, withClient, withView, withMessage, withAdministrator, send}
+use Rattle.protocol.specs.Worlds.{World, noMessage, server, client, view, message, withServer, withClient, withView, withMessage, send}
 use Rattle.protocol.specs.Steps.{link}
 
 module _ {A : Type 0} where

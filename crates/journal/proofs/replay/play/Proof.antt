@@ -1,4 +1,4 @@
-use Prim.Native.Nat.{ℕ, _-_}
+use Prim.Native.Nat.{_-_}
 use lib.ListN.{length}
 use borrow.Author.Needs.{needs}
 use Rattle.journal.specs.Replays.{Going, going-start, going-on, going-stop, going-end, room}

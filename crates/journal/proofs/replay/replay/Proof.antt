@@ -1,6 +1,4 @@
-use mathlib.Core.Path.{_≡_, sym, subst, _∙_}
-use mathlib.Core.List.{List}
-use Prim.Native.Nat.{ℕ}
+use mathlib.Core.Path.{sym, subst, _∙_}
 use borrow.Author.Tests.{not-true, not-false}
 use Rattle.image.specs.Readable.{read}
 use Rattle.journal.specs.Replays.{Played, Plays, legible, wrong-image, wrong-journal, unreadable, whole-replay}

@@ -1,4 +1,4 @@
-use mathlib.Core.Path.{_≡_, refl, sym, ap, _∙_}
+use mathlib.Core.Path.{sym, ap, _∙_}
 use Rattle.codec.specs.Lists.{put}
 use Rattle.codec.specs.Records.{administratorBytes}
 use Rattle.single.specs.Records.{put-all}

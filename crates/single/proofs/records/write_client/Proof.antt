@@ -1,4 +1,4 @@
-use mathlib.Core.Path.{_≡_, refl, sym, ap, _∙_}
+use mathlib.Core.Path.{refl, sym}
 use Rattle.codec.specs.Records.{clientBytes, clientHead, entryBytes}
 use Rattle.single.specs.Records.{in-two}
 use borrow.Author.Needs.{needs}

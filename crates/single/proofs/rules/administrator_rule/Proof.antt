@@ -1,4 +1,4 @@
-use borrow.Author.Tests.{eq-eqb, ne-eqb, lt-leb, le-leb, not-true, not-false}
+use borrow.Author.Tests.{eq-eqb, ne-eqb}
 use Rattle.protocol.specs.Tools.{guard}
 use Rattle.single.specs.Rules.{administratorRule}
 use borrow.Author.Needs.{needs}

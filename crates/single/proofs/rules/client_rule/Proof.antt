@@ -1,4 +1,4 @@
-use borrow.Author.Tests.{eq-eqb, ne-eqb, lt-leb, le-leb, not-true, not-false}
+use borrow.Author.Tests.{eq-eqb, ne-eqb, not-true, not-false}
 use Rattle.protocol.specs.Tools.{guard}
 use mathlib.Core.Path.{sym, ap, _∙_}
 use Rattle.single.specs.Rules.{opens, clientRule}

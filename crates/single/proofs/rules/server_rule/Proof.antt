@@ -1,5 +1,5 @@
-use mathlib.Core.Path.{sym, _∙_}
-use borrow.Author.Tests.{eq-eqb, ne-eqb, lt-leb, le-leb, not-true, not-false}
+use mathlib.Core.Path.{sym}
+use borrow.Author.Tests.{eq-eqb, ne-eqb, lt-leb, le-leb}
 use Rattle.protocol.specs.Tools.{guard}
 use Rattle.single.specs.Rules.{serverRule}
 use borrow.Author.Needs.{needs}

@@ -1,4 +1,4 @@
-use mathlib.Core.Path.{ap, _∙_}
+use mathlib.Core.Path.{ap}
 use lib.Dec.{leb}
 use borrow.Author.Tests.{le-leb, lt-leb}
 use borrow.Author.Needs.{needs}

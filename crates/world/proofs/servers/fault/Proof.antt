@@ -1,8 +1,3 @@
-use mathlib.Core.Path.{_≡_, sym, ap, ap₂, _∙_}
-use mathlib.Core.List.{List}
-use Prim.Native.Nat.{ℕ, _+_}
-use native.Mathlib.Omega.{arith}
-use borrow.Author.Tests.{not-true, not-false}
 use Rattle.world.specs.Delivers.{fault-no, fault-done}
 use borrow.Author.Needs.{needs}
 use Rattle.world.proofs.servers.fault.Statement.{statement}

@@ -1,8 +1,5 @@
-use mathlib.Core.Path.{_≡_, sym, ap, ap₂, _∙_}
-use mathlib.Core.List.{List}
-use Prim.Native.Nat.{ℕ, _+_}
+use mathlib.Core.Path.{_∙_}
 use native.Mathlib.Omega.{arith}
-use borrow.Author.Tests.{not-true, not-false}
 use Rattle.world.specs.Delivers.{member-none, member-is}
 use borrow.Author.Needs.{needs}
 use Rattle.world.proofs.servers.is_member.Statement.{statement}

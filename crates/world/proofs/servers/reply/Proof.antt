@@ -1,8 +1,6 @@
-use mathlib.Core.Path.{_≡_, sym, ap, ap₂, _∙_}
+use mathlib.Core.Path.{ap₂, _∙_}
 use mathlib.Core.List.{List}
 use Prim.Native.Nat.{ℕ, _+_}
-use native.Mathlib.Omega.{arith}
-use borrow.Author.Tests.{not-true, not-false}
 use Rattle.protocol.specs.declared.Message.{Message}
 use Rattle.world.specs.Images.{putSent}
 use Rattle.world.specs.Delivers.{reply-no, reply-done}

@@ -1,8 +1,4 @@
-use mathlib.Core.Path.{_≡_, sym, ap, ap₂, _∙_}
-use mathlib.Core.List.{List}
-use Prim.Native.Nat.{ℕ, _+_}
-use native.Mathlib.Omega.{arith}
-use borrow.Author.Tests.{not-true, not-false}
+use mathlib.Core.Path.{_∙_}
 use Rattle.world.specs.Delivers.{shown-none, shown-is}
 use borrow.Author.Needs.{needs}
 use Rattle.world.proofs.servers.shown_entry.Statement.{statement}

@@ -1,6 +1,5 @@
-use mathlib.Core.Path.{_≡_, sym, ap, subst, _∙_}
+use mathlib.Core.Path.{sym, ap, _∙_}
 use borrow.Author.Tests.{not-true, not-false}
-use Rattle.protocol.specs.declared.Step.{Step}
 use Rattle.protocol.specs.Steps.{step}
 use Rattle.codec.specs.Images.{decode}
 use Rattle.world.specs.Stored.{by}

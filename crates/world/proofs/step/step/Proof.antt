@@ -1,4 +1,4 @@
-use mathlib.Core.Path.{_≡_, sym, _∙_}
+use mathlib.Core.Path.{sym, _∙_}
 use borrow.Author.Tests.{not-true, not-false}
 use Rattle.world.specs.Stored.{by}
 use Rattle.world.specs.Performs.{legible, wrong-image, wrong-step, unreadable, whole-step}
