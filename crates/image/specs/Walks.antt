@@ -1,6 +1,7 @@
 -- The walk along a request's chain. Assumes nothing.
 use mathlib.Core.Path.{_≡_, refl}
 use mathlib.Core.Bool.{Bool, true, false}
+use mathlib.Core.Option.{Option, none, some}
 use Prim.Native.Nat.{ℕ, zero, suc, _+_, _-_, _≤_}
 use native.Mathlib.Nat.{add-zero, zero-add}
 use native.Mathlib.Omega.{arith}
@@ -18,13 +19,18 @@ use Rattle.image.specs.Tests.{by-test}
 use Rattle.image.specs.Links.{length-follow}
 use Rattle.image.specs.Chains.{sound, chainSound, links, chain-parts, parts-sound}
 
+-- the values of each case of a walk's answer: the links followed until zero, or none
+abbrev pub followed : Followed → Option ℕ
+followed (Whole n) = some n
+followed Broken = none
+
 -- a walk from n on, tally links having been followed before: "the walk reports the links followed"
-unfoldable pub walked : World → ℕ → ℕ → ℕ → ℕ → Followed
-walked w r left n tally = if (sound w r left n) (Whole (tally + length (follow w left n))) Broken
+unfoldable pub walked : World → ℕ → ℕ → ℕ → ℕ → Option ℕ
+walked w r left n tally = if (sound w r left n) (some (tally + length (follow w left n))) none
 
 -- the walk along the chain of message r
-unfoldable pub chained : World → ℕ → Followed
-chained w r = if (isRequest (message w r .kind)) (walked w r messages (message w r .next .0) 0) (Whole 0)
+unfoldable pub chained : World → ℕ → Option ℕ
+chained w r = if (isRequest (message w r .kind)) (walked w r messages (message w r .next .0) 0) (some 0)
 
 -- ---- one link of a walk
 
@@ -38,7 +44,7 @@ unfolding follow
 follow-end w zero = refl
 follow-end w (suc left) = refl
 
-pub walked-end : (w : World) (r left n tally : ℕ) → n ≡ 0 → walked w r left n tally ≡ Whole tally
+pub walked-end : (w : World) (r left n tally : ℕ) → n ≡ 0 → walked w r left n tally ≡ some tally
 unfolding walked
 walked-end w r left n tally e = rw (e, sound-end w r left, follow-end w left, add-zero)
 
@@ -47,7 +53,7 @@ unfolding sound follow all
 sound-out w r zero ne = absurd (ne refl)
 sound-out w r (suc n) ne = eqb·suc-zero 0
 
-pub walked-out : (w : World) (r left n tally : ℕ) → (n ≡ 0 → ⊥) → left ≡ 0 → walked w r left n tally ≡ Broken
+pub walked-out : (w : World) (r left n tally : ℕ) → (n ≡ 0 → ⊥) → left ≡ 0 → walked w r left n tally ≡ none
 unfolding walked
 walked-out w r left n tally ne e = rw (e, sound-out w r n ne)
 
@@ -55,7 +61,7 @@ sound-stray : (w : World) (r left n : ℕ) → takenAnswer w r (suc n) ≡ false
 unfolding sound follow all
 sound-stray w r left n t = rw t
 
-pub walked-stray : (w : World) (r left n tally : ℕ) → (n ≡ 0 → ⊥) → (left ≡ 0 → ⊥) → takenAnswer w r n ≡ false → walked w r left n tally ≡ Broken
+pub walked-stray : (w : World) (r left n tally : ℕ) → (n ≡ 0 → ⊥) → (left ≡ 0 → ⊥) → takenAnswer w r n ≡ false → walked w r left n tally ≡ none
 unfolding walked
 walked-stray w r left zero tally ne nl t = absurd (ne refl)
 walked-stray w r zero (suc n) tally ne nl t = absurd (nl refl)
@@ -81,16 +87,16 @@ walked-on w r (suc left) (suc n) tally ne nl t =
 -- ---- a whole chain
 
 -- "the links followed, which equals the chain's length"
-pub chained-links : (w : World) (r : ℕ) → chained w r ≡ if (chainSound w r) (Whole (links w r)) Broken
+pub chained-links : (w : World) (r : ℕ) → chained w r ≡ if (chainSound w r) (some (links w r)) none
 unfolding chained walked chainSound links chain
 chained-links w r =
     by-test (isRequest (message w r .kind)) (λ q. rw (q, zero-add)) (λ q. rw q)
 
-pub whole : (b : Bool) (l k : ℕ) → if b (Whole l) Broken ≡ Whole k → (b ≡ true) × (k ≡ l)
+pub whole : (b : Bool) (l k : ℕ) → if b (some l) none ≡ some k → (b ≡ true) × (k ≡ l)
 whole true l k e = (refl, cc)
 whole false l k e = (cc, cc)
 
-pub broken : (b : Bool) (l : ℕ) → if b (Whole l) Broken ≡ Broken → b ≡ false
+pub broken : (b : Bool) (l : ℕ) → if b (some l) none ≡ none → b ≡ false
 broken true l e = cc
 broken false l e = refl
 
@@ -101,7 +107,7 @@ links-most w r =
     (λ q. rw q (length-follow w messages (message w r .next .0))) (λ q. rw q (omega arith))
 
 -- in a well-formed world the walk from a request follows its whole chain
-pub chain-walked : (w : World) (r : ℕ) → chainFits w r ≡ true → isRequest (message w r .kind) ≡ true → chained w r ≡ Whole (length (chain w r))
+pub chain-walked : (w : World) (r : ℕ) → chainFits w r ≡ true → isRequest (message w r .kind) ≡ true → chained w r ≡ some (length (chain w r))
 unfolding chained walked chain
 chain-walked w r e q =
     let c = chain-parts w r e q in

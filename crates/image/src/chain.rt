@@ -7,7 +7,7 @@ ghost use Rattle.protocol.specs.Readable.{takenAnswer};
 ghost use Rattle.codec.specs.Images.{decode};
 ghost use Rattle.image.specs.Scan.{Open};
 ghost use Rattle.image.specs.Chains.{chainsFit, isTaken};
-ghost use Rattle.image.specs.Walks.{walked, chained};
+ghost use Rattle.image.specs.Walks.{followed, walked, chained};
 use super::sent::present;
 use codec::places::load_message;
 use codec::places::load_used;
@@ -52,7 +52,7 @@ pub fn walk(
     links: u16,
 ) -> Followed
     requires { ⌜ Open (now image) × (links + left ≤ messages) ⌝ }
-    ensures { λ r. ⌜ r ≡ walked (decode (now (image .entry))) (request .0) left (n .0) links ⌝ }
+    ensures { λ r. ⌜ followed r ≡ walked (decode (now (image .entry))) (request .0) left (n .0) links ⌝ }
 {
     if n.0 == 0 {
         return Followed::Whole(links);
@@ -71,7 +71,7 @@ pub fn walk(
 // The chain of message r; a message that is no request has none.
 pub fn chain_of(image: &[u8], r: MessageNumber) -> Followed
     requires { ⌜ Open (now image) × (r .0 ≤ messages) ⌝ }
-    ensures { λ x. ⌜ x ≡ chained (decode (now (image .entry))) (r .0) ⌝ }
+    ensures { λ x. ⌜ followed x ≡ chained (decode (now (image .entry))) (r .0) ⌝ }
 {
     let m = load_message(image, r);
     let next = m.next;

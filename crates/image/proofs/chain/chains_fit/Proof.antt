@@ -1,4 +1,4 @@
-use mathlib.Core.Path.{_≡_, sym, _∙_}
+use mathlib.Core.Path.{_≡_, sym, ap, _∙_}
 use mathlib.Core.Bool.{true}
 use Prim.Native.Nat.{_+_, _*_, _-_, _≤_}
 use native.Mathlib.Omega.{arith}
@@ -9,7 +9,7 @@ use Rattle.image.specs.Scan.{open-used, chains-rule}
 use Rattle.protocol.specs.Tools.{countTo, allTo}
 use Rattle.values.specs.Bits.{count-le}
 use Rattle.image.specs.Loops.{all-start, all-more, all-fails, count-start, count-more, sum-start, sum-more}
-use Rattle.image.specs.Walks.{chained-links, whole, broken, links-most}
+use Rattle.image.specs.Walks.{followed, chained-links, whole, broken, links-most}
 use Rattle.image.specs.Chains.{chainSound, links, isTaken}
 use Rattle.image.specs.Counts.{sumTo}
 use Rattle.image.proofs.chain.chains_fit.Statement.{statement}
@@ -52,7 +52,7 @@ returns : tie.Need-returns Inv-loop μ-loop
 returns c =
     let a = c .before .before .before .before .before .before .before .args in
     let l = c .before .before .before .before .loop in
-    let q = broken (chainSound (decode (a .image .now)) (l .k + 1)) (links (decode (a .image .now)) (l .k + 1)) (sym (chained-links (decode (a .image .now)) (l .k + 1)) ∙ sym (c .before .before .chain-of .ensures) ∙ c .enum-told .given .1) in
+    let q = broken (chainSound (decode (a .image .now)) (l .k + 1)) (links (decode (a .image .now)) (l .k + 1)) (sym (chained-links (decode (a .image .now)) (l .k + 1)) ∙ sym (c .before .before .chain-of .ensures) ∙ ap followed (c .enum-told .given .1)) in
     rw (chains-rule (a .image .now) (c .before .before .before .before .before .load-used .result) (c .before .before .before .before .before .load-used .ensures), all-fails (chainSound (decode (a .image .now))) (c .before .before .before .before .before .load-used .result) (l .k + 1) (omega arith) (omega arith) q)
 
 cast-sum : tie.Need-cast-sum Inv-loop μ-loop
@@ -63,7 +63,7 @@ add-sum c =
     let a = c .before .before .before .before .before .before .before .before .args in
     let l = c .before .before .before .before .before .loop in
     let h = open-used (a .image .now) (c .before .before .before .before .before .before .before .before .pre) in
-    let q = whole (chainSound (decode (a .image .now)) (l .k + 1)) (links (decode (a .image .now)) (l .k + 1)) (c .before .chain .given .0 .0) (sym (chained-links (decode (a .image .now)) (l .k + 1)) ∙ sym (c .before .before .before .chain-of .ensures) ∙ c .before .chain .given .1) in
+    let q = whole (chainSound (decode (a .image .now)) (l .k + 1)) (links (decode (a .image .now)) (l .k + 1)) (c .before .chain .given .0 .0) (sym (chained-links (decode (a .image .now)) (l .k + 1)) ∙ sym (c .before .before .before .chain-of .ensures) ∙ ap followed (c .before .chain .given .1)) in
     omega (arith, c .before .before .before .before .before .before .load-used .ensures, links-most (decode (a .image .now)) (l .k + 1))
 
 taken-bit-requires : tie.Need-taken-bit-requires Inv-loop μ-loop
@@ -88,7 +88,7 @@ loop-again : tie.Need-loop-again Inv-loop μ-loop
 loop-again c =
     let l = c .before .before .before .before .before .before .loop in
     let w = (decode (c .before .before .before .before .before .before .before .before .before .args .image .now)) in
-    let q = whole (chainSound w (l .k + 1)) (links w (l .k + 1)) (c .before .before .chain .given .0 .0) (sym (chained-links w (l .k + 1)) ∙ sym (c .before .before .before .before .chain-of .ensures) ∙ c .before .before .chain .given .1) in
+    let q = whole (chainSound w (l .k + 1)) (links w (l .k + 1)) (c .before .before .chain .given .0 .0) (sym (chained-links w (l .k + 1)) ∙ sym (c .before .before .before .before .chain-of .ensures) ∙ ap followed (c .before .before .chain .given .1)) in
     let s = sum-more (links w) (l .k) in
     let t = count-more (isTaken w) (l .k) in
     let m = links-most w (l .k + 1) in
