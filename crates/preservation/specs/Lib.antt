@@ -4,3 +4,4 @@ pub mod Links
 pub mod Updates
 pub mod Kept
 pub mod Begun
+pub mod Open
