@@ -5,3 +5,4 @@ pub mod Updates
 pub mod Kept
 pub mod Begun
 pub mod Open
+pub mod Completed
