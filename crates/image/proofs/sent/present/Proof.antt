@@ -2,7 +2,7 @@ use mathlib.Core.Path.{ap}
 use lib.Dec.{leb}
 use borrow.Author.Tests.{le-leb, lt-leb}
 use borrow.Author.Needs.{needs}
-use Rattle.image.specs.Tests.{pass}
+use Rattle.values.specs.Records.{pass}
 use Rattle.protocol.specs.Worlds.{present}
 use Rattle.codec.specs.Images.{decode}
 use Rattle.image.proofs.sent.present.Statement.{statement}
