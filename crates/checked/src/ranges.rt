@@ -18,10 +18,7 @@ ghost use Rattle.checked.specs.Ranges.{numberFits, serverInRange, messag
 pub fn number_fits(n: MessageNumber) -> bool
     ensures { λ r. ⌜ r ≡ numberFits (n .0) ⌝ }
 {
-    if n.0 < 1 {
-        return false;
-    }
-    n.0 <= MESSAGES
+    records::number_within(n, MESSAGES)
 }
 
 // A server: "views 1 to 32", and the tests of an image whose newest view is 32.
@@ -101,10 +98,8 @@ pub fn administrator_in_range(a: Administrator) -> bool
 {
     let newest = a.newest;
     let ending = a.ending;
-    if newest.0 < 1 {
-        return false;
-    }
-    if VIEWS < newest.0 {
+    let known = records::view_within(newest, ViewNumber(VIEWS));
+    if !known {
         return false;
     }
     ending_in_range(newest, ending)

@@ -35,11 +35,7 @@ pub fn present(image: &[u8], n: MessageNumber) -> bool
     ensures { λ r. ⌜ r ≡ presentIn (decode (now (image .entry))) (n .0) ⌝ }
 {
     let used = load_used(image);
-    let k = n.0;
-    if k < 1 {
-        return false;
-    }
-    k <= used
+    records::number_within(n, used)
 }
 
 // Message n was sent, and is of that kind and sender.
@@ -95,10 +91,7 @@ pub fn header_fits(image: &[u8]) -> bool
     if MESSAGES < used {
         return false;
     }
-    if newest.0 < 1 {
-        return false;
-    }
-    if VIEWS < newest.0 {
+    if !records::view_within(newest, ViewNumber(VIEWS)) {
         return false;
     }
     ending_fits(image, a)

@@ -3,6 +3,7 @@ use super::entries;
 use super::sizes;
 use protocol::Client;
 use protocol::Message;
+use protocol::MessageNumber;
 use protocol::Server;
 use protocol::View;
 use protocol::ViewNumber;
@@ -19,8 +20,29 @@ use protocol::limits::SERVERS;
 ghost use mathlib.Core.Path.{_≡_};
 ghost use Prim.Native.Nat.{_≤_, _^_};
 ghost use lib.Dec.{ltb};
+ghost use Rattle.protocol.specs.Tools.{within};
 ghost use Rattle.protocol.specs.Readable.{senderFits, nextFits, entryZero, zeroMessage};
 ghost use Rattle.values.specs.Records.{viewRule, keyRule, serverRule, idleRule, kindRule, askingRule, readingRule, tagRule, requestRule, messageRule};
+
+// The number of a message, of those up to the last.
+pub fn number_within(n: MessageNumber, last: u16) -> bool
+    ensures { λ r. ⌜ r ≡ within 1 last (n .0) ⌝ }
+{
+    if n.0 < 1 {
+        return false;
+    }
+    n.0 <= last
+}
+
+// The number of a view, of those up to the last.
+pub fn view_within(t: ViewNumber, last: ViewNumber) -> bool
+    ensures { λ r. ⌜ r ≡ within 1 (last .0) (t .0) ⌝ }
+{
+    if t.0 < 1 {
+        return false;
+    }
+    t.0 <= last.0
+}
 
 // "views obey the size rule"; "Beyond newest (newest+1 while ending) all zero."
 pub fn view_fits(v: View, t: ViewNumber, last: ViewNumber) -> bool
@@ -158,14 +180,10 @@ fn sender_fits(kind: u8, sender: u8) -> bool
 fn tag_fits(newest: ViewNumber, kind: u8, t: ViewNumber) -> bool
     ensures { λ r. ⌜ r ≡ tagRule (newest .0) kind (t .0) ⌝ }
 {
-    let n = t.0;
     if kind <= WRITE {
-        return n == 0;
+        return t.0 == 0;
     }
-    if n < 1 {
-        return false;
-    }
-    n <= newest.0
+    view_within(t, newest)
 }
 
 // "taken u8 (0 or 1) and request u16 (both 0 but in answers)"; asked: whether the request can be an answer's.
