@@ -12,7 +12,7 @@ use Rattle.protocol.specs.Clients.{NONE, WRITES, number, begin, toWrite, countL
 use Rattle.values.specs.Bits.{bitIn}
 use Rattle.values.specs.Tallies.{firstAnswer, closesAt}
 use Rattle.values.specs.Records.{serverRule, keyRule, messageRule}
-use Rattle.checked.specs.Ranges.{numberFits, serverInRange, messageInRange, writingFits, clientInRange, endFits, administratorInRange}
+use Rattle.checked.specs.Ranges.{numberFits, serverInRange, messageInRange, clientInRange, endFits, administratorInRange}
 use Rattle.checked.specs.Rules.{serveRule, writeRule, takeRule, closeRule, callRule, advanceRule}
 
 server : ℕ → ℕ → Entry → Server
@@ -75,7 +75,7 @@ write-served = refl
 
 write-complete : closeRule (client (Writing (number 3)) WRITES (entry 1 1 7)) 1 (entry 1 1 7) 5
     ≡ done (record { client = client Idle WRITES (entry 1 1 7); complete = true })
-unfolding client closeRule guard clientInRange writingFits entryFits numberFits close
+unfolding client closeRule guard clientInRange entryFits numberFits close
 write-complete = refl
 
 -- view 2 is called

@@ -26,13 +26,10 @@ serverInRange a = serverRule views a
 unfoldable pub messageInRange : Message → Bool
 messageInRange m = leb (m .next .0) messages && messageRule views m (numberFits (m .request .0))
 
-unfoldable pub writingFits : ℕ → ℕ → Bool
-writingFits kind n = kindRule kind && numberFits n
-
 abbrev pub phaseInRange : Client → Phase → Bool
 phaseInRange c Idle = idleRule c
 phaseInRange c (Reading r) = readingRule c (numberFits (r .0))
-phaseInRange c (Writing r) = writingFits (c .kind) (r .0)
+phaseInRange c (Writing r) = kindRule (c .kind) && numberFits (r .0)
 
 unfoldable pub clientInRange : Client → Bool
 clientInRange c = entryFits (c .entry) && phaseInRange c (c .phase)

@@ -12,7 +12,7 @@ use protocol::limits::VIEWS;
 use values::entries;
 use values::records;
 ghost use mathlib.Core.Path.{_≡_};
-ghost use Rattle.checked.specs.Ranges.{numberFits, serverInRange, messageInRange, writingFits, clientInRange, endFits, endingInRange, administratorInRange};
+ghost use Rattle.checked.specs.Ranges.{numberFits, serverInRange, messageInRange, clientInRange, endFits, endingInRange, administratorInRange};
 
 // The number of a message: 1 to 1,023.
 pub fn number_fits(n: MessageNumber) -> bool
@@ -41,17 +41,6 @@ pub fn message_in_range(m: Message) -> bool
     records::message_fits(m, ViewNumber(VIEWS), asked)
 }
 
-// A writing client.
-fn writing_fits(kind: u8, n: MessageNumber) -> bool
-    ensures { λ r. ⌜ r ≡ writingFits kind (n .0) ⌝ }
-{
-    let known = records::kind_fits(kind);
-    if !known {
-        return false;
-    }
-    number_fits(n)
-}
-
 // A client.
 pub fn client_in_range(c: Client) -> bool
     ensures { λ r. ⌜ r ≡ clientInRange c ⌝ }
@@ -68,7 +57,13 @@ pub fn client_in_range(c: Client) -> bool
             let sent = number_fits(n);
             records::reading_fits(c, sent)
         }
-        Phase::Writing(n) => writing_fits(c.kind, n),
+        Phase::Writing(n) => {
+            let known = records::kind_fits(c.kind);
+            if !known {
+                return false;
+            }
+            number_fits(n)
+        }
     }
 }
 
