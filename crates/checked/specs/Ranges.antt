@@ -18,11 +18,11 @@ use Rattle.values.specs.Records.{serverRule, idleRule, kindRule, readingRule, t
 unfoldable pub numberFits : ℕ → Bool
 numberFits n = within 1 messages n
 
--- "views 1 to 32", "0 none yet"; else as in an image whose newest view is 32
+-- "views 1 to 32", "0 none yet"
 unfoldable pub serverInRange : Server → Bool
 serverInRange a = serverRule views a
 
--- the same, where "messages 1 to 1,023" is all that is known of an answer's request, and of a next that is not 0
+-- "views 1 to 32"; a request that is answered and a next are of "messages 1 to 1,023"
 unfoldable pub messageInRange : Message → Bool
 messageInRange m = leb (m .next .0) messages && messageRule views m (numberFits (m .request .0))
 

@@ -21,14 +21,14 @@ pub fn number_fits(n: MessageNumber) -> bool
     records::number_within(n, MESSAGES)
 }
 
-// A server: "views 1 to 32", and the tests of an image whose newest view is 32.
+// A server: its view is at most 32, a correct one has no key but its own view's, and its entry fits.
 pub fn server_in_range(a: Server) -> bool
     ensures { λ r. ⌜ r ≡ serverInRange a ⌝ }
 {
     records::server_fits(a, ViewNumber(VIEWS))
 }
 
-// A message of kind 1 to 5: the same, where an answer's request is a message's number, and so is its next, or 0.
+// A message of kind 1 to 5: its view is at most 32, its next at most 1,023, and the request of an answer is a message's number.
 pub fn message_in_range(m: Message) -> bool
     ensures { λ r. ⌜ r ≡ messageInRange m ⌝ }
 {

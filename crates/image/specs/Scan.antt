@@ -33,9 +33,7 @@ use Rattle.image.specs.Formed.{Formed, formed, well-formed, Headed, head
 use Rattle.image.specs.Chains.{chainSound, links, isTaken, chainsFit, chains-fit, taken-parts}
 use Rattle.image.specs.Readable.{readable, Read, read, read-back}
 
--- ---- what the tests of single records leave open
-
--- message n was sent, and is a request
+-- "an answer's request has kind 1 to 3"
 abbrev pub isAsked : World → ℕ → Bool
 isAsked w n = present w n && isRequest (message w n .kind)
 

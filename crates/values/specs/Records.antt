@@ -1,4 +1,4 @@
--- Tests of single records; the last view there is stands beside them. Assumes nothing.
+-- The tests of single records that need no image; newest is the newest view of an image, and 32 for a host. Assumes nothing.
 use Prim.Native.Nat.{ℕ, _^_}
 use mathlib.Core.Bool.{Bool, true, not, _&&_, _||_}
 use mathlib.Core.Path.{_≡_}
@@ -38,7 +38,7 @@ kindRule kind = within WRITES READS kind
 abbrev pub askingRule : Client → Bool
 askingRule a = eqb (countOf (a .entry)) 0 && (eqb (writerOf (a .entry)) 0 && (eqb (a .kind) WRITES || eqb (a .entry .value) 0))
 
--- a reading client; sent: whether its READ was
+-- a reading client; sent: its READ was
 abbrev pub readingRule : Client → Bool → Bool
 readingRule a sent = kindRule (a .kind) && (sent && askingRule a)
 
@@ -46,11 +46,11 @@ readingRule a sent = kindRule (a .kind) && (sent && askingRule a)
 abbrev pub tagRule : ℕ → ℕ → ℕ → Bool
 tagRule newest kind t = if (leb kind WRITE) (eqb t 0) (within 1 newest t)
 
--- "taken u8 (0 or 1) and request u16 (both 0 but in answers)"; asked: whether the request can be an answer's
+-- "taken u8 (0 or 1) and request u16 (both 0 but in answers)"; asked: the request can be an answer's
 abbrev pub requestRule : Message → Bool → Bool
 requestRule m asked = if (eqb (m .kind) ANSWER) asked (not (m .taken) && eqb (m .request .0) 0)
 
--- "kind u8 (1 to 4, or 5 answer)"
+-- "kind u8 (1 to 4, or 5 answer)", and the other fields by the kind
 unfoldable pub messageRule : ℕ → Message → Bool → Bool
 messageRule newest m asked =
     within READ ANSWER (m .kind)

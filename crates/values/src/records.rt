@@ -1,4 +1,4 @@
-// The tests of single records: those of a readable image, `newest` its newest view, and of a record that a host hands in, `newest` 32.
+// The tests of single records that need no image. `newest` is the newest view of an image, and 32 for a host that knows none.
 use super::entries;
 use super::sizes;
 use protocol::Client;
@@ -24,7 +24,7 @@ ghost use Rattle.protocol.specs.Tools.{within};
 ghost use Rattle.protocol.specs.Readable.{senderFits, nextFits, entryZero, zeroMessage};
 ghost use Rattle.values.specs.Records.{viewRule, keyRule, serverRule, idleRule, kindRule, askingRule, readingRule, tagRule, requestRule, messageRule};
 
-// The number of a message, of those up to the last.
+// The number of a message: 1 to the last.
 pub fn number_within(n: MessageNumber, last: u16) -> bool
     ensures { λ r. ⌜ r ≡ within 1 last (n .0) ⌝ }
 {
@@ -34,7 +34,7 @@ pub fn number_within(n: MessageNumber, last: u16) -> bool
     n.0 <= last
 }
 
-// The number of a view, of those up to the last.
+// The number of a view: 1 to the last.
 pub fn view_within(t: ViewNumber, last: ViewNumber) -> bool
     ensures { λ r. ⌜ r ≡ within 1 (last .0) (t .0) ⌝ }
 {
@@ -144,7 +144,7 @@ fn asking_fits(a: Client) -> bool
     entry.value == 0
 }
 
-// A reading client; sent: whether its READ was.
+// A reading client; `sent`: its READ was.
 pub fn reading_fits(a: Client, sent: bool) -> bool
     ensures { λ r. ⌜ r ≡ readingRule a sent ⌝ }
 {
@@ -186,7 +186,7 @@ fn tag_fits(newest: ViewNumber, kind: u8, t: ViewNumber) -> bool
     view_within(t, newest)
 }
 
-// "taken u8 (0 or 1) and request u16 (both 0 but in answers)"; asked: whether the request can be an answer's.
+// "taken u8 (0 or 1) and request u16 (both 0 but in answers)"; `asked`: the request can be an answer's
 fn request_fits(m: Message, asked: bool) -> bool
     ensures { λ r. ⌜ r ≡ requestRule m asked ⌝ }
 {
@@ -231,7 +231,7 @@ fn entry_zero(m: Message) -> bool
     true
 }
 
-// A message of kind 1 to 5.
+// "kind u8 (1 to 4, or 5 answer)", and the other fields by the kind
 pub fn message_fits(m: Message, newest: ViewNumber, asked: bool) -> bool
     ensures { λ r. ⌜ r ≡ messageRule (newest .0) m asked ⌝ }
 {
@@ -261,7 +261,7 @@ pub fn message_fits(m: Message, newest: ViewNumber, asked: bool) -> bool
     entries::entry_fits(entry)
 }
 
-// "messages beyond used are zero"
+// "message 0 all zero"; "messages beyond used are zero"
 pub fn zero_message(m: Message) -> bool
     ensures { λ r. ⌜ r ≡ zeroMessage m ⌝ }
 {
