@@ -11,7 +11,8 @@ use Rattle.protocol.specs.Servers.{READ, WRITE, END, START, ANSWER, Reply, keep
 use Rattle.protocol.specs.Clients.{NONE, WRITES, number, begin, toWrite, countLeft, close, call, advance}
 use Rattle.values.specs.Bits.{bitIn}
 use Rattle.values.specs.Tallies.{firstAnswer, closesAt}
-use Rattle.checked.specs.Ranges.{numberFits, serverInRange, senderTag, viewTag, requestTag, nextTag, entryTag, messageInRange, openKind, idleFits, readingFits, writingFits, clientInRange, endFits, administratorInRange}
+use Rattle.values.specs.Records.{serverRule, keyRule, messageRule}
+use Rattle.checked.specs.Ranges.{numberFits, serverInRange, messageInRange, clientInRange, endFits, administratorInRange}
 use Rattle.checked.specs.Rules.{serveRule, writeRule, takeRule, closeRule, callRule, advanceRule}
 
 server : ℕ → ℕ → Entry → Server
@@ -43,20 +44,20 @@ silent a = done (record { server = a; answer = none })
 
 -- client 1 writes 7
 write-begins : writeRule (client Idle NONE empty) 7 1 ≡ done (client (Reading (number 1)) WRITES (entry 0 0 7))
-unfolding client writeRule guard clientInRange idleFits entryFits same numberFits begin
+unfolding client writeRule guard clientInRange entryFits same numberFits begin
 write-begins = refl
 
 read-served : serveRule (server 1 1 empty) (request READ 1 0 empty) false ≡ answers (server 1 1 empty) 1 empty
-unfolding server request answers serveRule guard serverInRange messageInRange senderTag viewTag requestTag nextTag entryTag entryFits same bitOf serve holds
+unfolding server request answers serveRule guard serverInRange serverRule keyRule messageInRange messageRule entryFits same bitOf serve holds
 read-served = refl
 
 -- a client that waits for nothing takes no answer
 none-taken : takeRule (answer 1 1 1 empty) 0 ≡ refused 7
-unfolding answer takeRule guard messageInRange senderTag viewTag requestTag nextTag entryTag entryFits same numberFits
+unfolding answer takeRule guard messageInRange messageRule entryFits same numberFits
 none-taken = refl
 
 read-taken : takeRule (answer 1 1 1 empty) 1 ≡ done (answer 1 1 1 empty)
-unfolding answer takeRule guard messageInRange senderTag viewTag requestTag nextTag entryTag entryFits same numberFits
+unfolding answer takeRule guard messageInRange messageRule entryFits same numberFits
 read-taken = refl
 
 read-closes : closesAt (firstAnswer (answer 1 1 1 empty)) (writeSize (record { members = 1; f = 0 })) ≡ some empty
@@ -65,16 +66,16 @@ read-closes = refl
 
 write-next : closeRule (client (Reading (number 1)) WRITES (entry 0 0 7)) 1 empty 3
     ≡ done (record { client = client (Writing (number 3)) WRITES (entry 1 1 7); complete = false })
-unfolding client closeRule guard clientInRange readingFits openKind entryFits numberFits close countLeft toWrite
+unfolding client closeRule guard clientInRange entryFits numberFits close countLeft toWrite
 write-next = refl
 
 write-served : serveRule (server 1 1 empty) (request WRITE 1 0 (entry 1 1 7)) false ≡ answers (server 1 1 (entry 1 1 7)) 1 (entry 1 1 7)
-unfolding server request answers serveRule guard serverInRange messageInRange senderTag viewTag requestTag nextTag entryTag entryFits same bitOf serve holds keeping larger below
+unfolding server request answers serveRule guard serverInRange serverRule keyRule messageInRange messageRule entryFits same bitOf serve holds keeping larger below
 write-served = refl
 
 write-complete : closeRule (client (Writing (number 3)) WRITES (entry 1 1 7)) 1 (entry 1 1 7) 5
     ≡ done (record { client = client Idle WRITES (entry 1 1 7); complete = true })
-unfolding client closeRule guard clientInRange writingFits openKind entryFits numberFits close
+unfolding client closeRule guard clientInRange entryFits numberFits close
 write-complete = refl
 
 -- view 2 is called
@@ -83,7 +84,7 @@ unfolding administrator ending callRule guard administratorInRange numberFits ca
 view-called = refl
 
 end-served : serveRule (server 1 1 (entry 1 1 7)) (request END 0 1 empty) true ≡ answers (server 1 0 (entry 1 1 7)) 1 (entry 1 1 7)
-unfolding server request answers serveRule guard serverInRange messageInRange senderTag viewTag requestTag nextTag entryTag entryFits same bitOf serve holds withoutKey
+unfolding server request answers serveRule guard serverInRange serverRule keyRule messageInRange messageRule entryFits same bitOf serve holds withoutKey
 end-served = refl
 
 end-closes : advanceRule (ending 1 5) ≡ done (administrator 2)
@@ -91,10 +92,10 @@ unfolding administrator ending advanceRule guard administratorInRange endFits nu
 end-closes = refl
 
 start-served : serveRule (server 0 0 empty) (request START 0 2 (entry 1 1 7)) true ≡ silent (server 2 2 (entry 1 1 7))
-unfolding server request silent serveRule guard serverInRange messageInRange senderTag viewTag requestTag nextTag entryTag entryFits same bitOf serve holds joining larger below
+unfolding server request silent serveRule guard serverInRange serverRule keyRule messageInRange messageRule entryFits same bitOf serve holds joining larger below
 start-served = refl
 
 -- a retired server is silent
 late-read : serveRule (server 1 0 (entry 1 1 7)) (request READ 2 0 empty) false ≡ refused 7
-unfolding server request serveRule guard serverInRange messageInRange senderTag viewTag requestTag nextTag entryTag entryFits same bitOf serve holds
+unfolding server request serveRule guard serverInRange serverRule keyRule messageInRange messageRule entryFits same bitOf serve holds
 late-read = refl

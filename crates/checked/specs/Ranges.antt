@@ -3,76 +3,33 @@ use Prim.Native.Nat.{ℕ, _≤_, _<_}
 use mathlib.Core.Path.{_≡_, refl}
 use native.Mathlib.Omega.{arith}
 use borrow.Author.Tests.{leb-true, ltb-true, eqb-true}
-use mathlib.Core.Bool.{Bool, true, false, not, _&&_, _||_}
+use mathlib.Core.Bool.{Bool, true, false, _&&_}
 use lib.Dec.{ltb, leb, eqb}
-use Rattle.checked.specs.Types.{Entry, Server, Phase, Idle, Reading, Writing, Client, Ending, Settled, EndSent, Administrator, Message}
-use Rattle.protocol.specs.Tools.{if, within, bitOf}
+use Rattle.checked.specs.Types.{Server, Phase, Idle, Reading, Writing, Client, Ending, Settled, EndSent, Administrator, Message}
+use Rattle.protocol.specs.Tools.{if, within}
 use Rattle.protocol.specs.Sizes.{views, messages}
-use Rattle.protocol.specs.Entries.{empty, countOf, writerOf, same, entryFits}
-use Rattle.protocol.specs.Servers.{READ, WRITE, END, ANSWER, isRequest}
-use Rattle.protocol.specs.Clients.{NONE, WRITES, READS, isEnding}
+use Rattle.protocol.specs.Entries.{entryFits}
+use Rattle.protocol.specs.Servers.{READ, WRITE, ANSWER}
+use Rattle.protocol.specs.Clients.{isEnding}
 use Rattle.protocol.specs.Readable.{senderFits}
+use Rattle.values.specs.Records.{serverRule, idleRule, kindRule, readingRule, tagRule, messageRule}
 
 -- "messages 1 to 1,023"
 unfoldable pub numberFits : ℕ → Bool
 numberFits n = within 1 messages n
 
--- "views 1 to 32", "0 none yet"; "a correct server has no key but its own view's"; "writers are at most 16"
+-- "views 1 to 32", "0 none yet"
 unfoldable pub serverInRange : Server → Bool
-serverInRange a =
-    leb (a .view .0) views
-    && (entryFits (a .entry) && (a .faulty || (eqb (a .keys) 0 || eqb (a .keys) (bitOf (a .view .0)))))
+serverInRange a = serverRule views a
 
--- "sender u8 (client; administrator 0; server for an answer)"
-unfoldable pub senderTag : ℕ → ℕ → Bool
-senderTag kind sender = senderFits kind sender
-
--- "view u8 (0 for 1 and 2)"
-unfoldable pub viewTag : ℕ → ℕ → Bool
-viewTag kind t = if (leb kind WRITE) (eqb t 0) (within 1 views t)
-
--- "taken u8 (0 or 1) and request u16 (both 0 but in answers)"
-unfoldable pub requestTag : ℕ → Bool → ℕ → Bool
-requestTag kind taken n = if (eqb kind ANSWER) (numberFits n) (not taken && eqb n 0)
-
--- "next u16 (0 in a START and an untaken answer)"
-unfoldable pub nextTag : ℕ → Bool → ℕ → Bool
-nextTag kind taken n = leb n messages && ((isRequest kind || taken) || eqb n 0)
-
--- "entry (zero for 1 and 3)"
-unfoldable pub entryTag : ℕ → Entry → Bool
-entryTag kind e = not (eqb kind READ || eqb kind END) || same e empty
-
--- "kind u8 (1 to 4, or 5 answer)"
+-- "views 1 to 32"; a request that is answered and a next are of "messages 1 to 1,023"
 unfoldable pub messageInRange : Message → Bool
-messageInRange m =
-    within READ ANSWER (m .kind)
-    && (senderTag (m .kind) (m .sender)
-    && (viewTag (m .kind) (m .view .0)
-    && (requestTag (m .kind) (m .taken) (m .request .0)
-    && (nextTag (m .kind) (m .taken) (m .next .0) && (entryTag (m .kind) (m .entry) && entryFits (m .entry))))))
-
--- "Kind 0 goes only with phase 0 and the empty entry."
-unfoldable pub idleFits : Client → Bool
-idleFits c = leb (c .kind) READS && (not (eqb (c .kind) NONE) || same (c .entry) empty)
-
-unfoldable pub openKind : ℕ → Bool
-openKind kind = within WRITES READS kind
-
--- "in phase 1 of a write only its value is set, of a read it is zero"
-unfoldable pub readingFits : Client → ℕ → Bool
-readingFits c n =
-    openKind (c .kind)
-    && (numberFits n
-    && (eqb (countOf (c .entry)) 0 && (eqb (writerOf (c .entry)) 0 && (eqb (c .kind) WRITES || eqb (c .entry .value) 0))))
-
-unfoldable pub writingFits : Client → ℕ → Bool
-writingFits c n = openKind (c .kind) && numberFits n
+messageInRange m = leb (m .next .0) messages && messageRule views m (numberFits (m .request .0))
 
 abbrev pub phaseInRange : Client → Phase → Bool
-phaseInRange c Idle = idleFits c
-phaseInRange c (Reading r) = readingFits c (r .0)
-phaseInRange c (Writing r) = writingFits c (r .0)
+phaseInRange c Idle = idleRule c
+phaseInRange c (Reading r) = readingRule c (numberFits (r .0))
+phaseInRange c (Writing r) = kindRule (c .kind) && numberFits (r .0)
 
 unfoldable pub clientInRange : Client → Bool
 clientInRange c = entryFits (c .entry) && phaseInRange c (c .phase)
@@ -98,11 +55,12 @@ tag-le true t e = omega (arith, eqb-true t 0 e)
 tag-le false t e = leb-true t 32 (both (leb 1 t) (leb t 32) e .1)
 
 pub message-view : (m : Message) → messageInRange m ≡ true → m .view .0 ≤ 32
-unfolding messageInRange viewTag
+unfolding messageInRange messageRule
 message-view m e =
-    let p = both (within READ ANSWER (m .kind)) _ e .1 in
-    let q = both (senderTag (m .kind) (m .sender)) _ p .1 in
-    tag-le (leb (m .kind) WRITE) (m .view .0) (both (viewTag (m .kind) (m .view .0)) _ q .0)
+    let o = both (leb (m .next .0) messages) _ e .1 in
+    let p = both (within READ ANSWER (m .kind)) _ o .1 in
+    let q = both (senderFits (m .kind) (m .sender)) _ p .1 in
+    tag-le (leb (m .kind) WRITE) (m .view .0) (both (tagRule views (m .kind) (m .view .0)) _ q .0)
 
 -- an administrator in range that is ending has a view after the newest
 ending-lt : (n : ℕ) (x : Ending) → endingInRange n x ≡ true → isEnding x ≡ true → n < 32

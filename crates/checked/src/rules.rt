@@ -23,6 +23,7 @@ use protocol::limits::CLIENTS;
 use protocol::limits::MESSAGES;
 use protocol::limits::VIEWS;
 use values::entries;
+use values::records;
 ghost use mathlib.Core.Path.{_≡_};
 ghost use Rattle.protocol.specs.Tools.{numberOf};
 ghost use Rattle.protocol.specs.Servers.{served};
@@ -56,10 +57,8 @@ pub fn false_answer_rule(a: Server, t: ViewNumber, m: Message, source: bool) -> 
     if !message_ok {
         return 3;
     }
-    if t.0 < 1 {
-        return 3;
-    }
-    if VIEWS < t.0 {
+    let view_ok = records::view_within(t, ViewNumber(VIEWS));
+    if !view_ok {
         return 3;
     }
     servers::may_answer(a, t, m, source)

@@ -12,13 +12,13 @@ use Rattle.protocol.specs.Sizes.{clients, servers, views, messages, sized}
 use Rattle.protocol.specs.Entries.{same, entryFits}
 use Rattle.protocol.specs.Worlds.{view, server, client, message, noView, noServer, noClient, noMessage, freshServer, freshWorld}
 use Rattle.protocol.specs.Readable.{headerFits, lastView, viewFits, serverFits, clientFits, zeroMessage, messageFits, wellFormed}
+use Rattle.values.specs.Records.{serverRule, keyRule}
 use Rattle.codec.specs.Images.{encode}
 use Rattle.codec.specs.Laws.{Full}
 use Rattle.codec.specs.Lists.{length-listTo, nth-listTo}
 use Rattle.codec.specs.Whole.{all-of}
 use Rattle.image.specs.Formed.{Formed, well-formed}
 use Rattle.image.specs.Readable.{readable, world-readable}
-use Rattle.image.specs.Scan.{serverRule, keyRule}
 
 same-again : {A : Type 0} (n k : ℕ) (x : A) → getD (replicate n x) k x ≡ x
 same-again zero k x = refl

@@ -1,25 +1,23 @@
 -- Readable, tested record by record on the bytes. Assumes nothing.
 use mathlib.Core.Path.{_≡_, sym, _∙_}
-use mathlib.Core.Bool.{Bool, true, false, not, _&&_, _||_}
+use mathlib.Core.Bool.{Bool, true, false, _&&_}
 use mathlib.Core.List.{List}
-use Prim.Native.Nat.{ℕ, zero, suc, _+_, _≤_, _^_}
+use Prim.Native.Nat.{ℕ, zero, suc, _+_, _≤_}
 use native.Mathlib.Omega.{arith}
 use lib.ListN.{length}
 use lib.Dec.{ltb, leb, eqb}
 use borrow.Author.Tests.{ne-eqb}
-use Rattle.protocol.specs.declared.View.{View}
-use Rattle.protocol.specs.declared.Server.{Server}
-use Rattle.protocol.specs.declared.Client.{Client}
 use Rattle.protocol.specs.declared.MessageNumber.{MessageNumber}
 use Rattle.protocol.specs.declared.Ending.the-variants.{EndSent}
 use Rattle.protocol.specs.declared.Administrator.{Administrator}
-use Rattle.protocol.specs.Tools.{if, bit, within, countTo, allTo, bitOf}
-use Rattle.protocol.specs.Sizes.{clients, servers, views, messages, sized}
-use Rattle.protocol.specs.Entries.{empty, countOf, writerOf, same, entryFits}
-use Rattle.protocol.specs.Servers.{WRITE, END}
-use Rattle.protocol.specs.Clients.{NONE, WRITES, READS, isEnding}
-use Rattle.protocol.specs.Worlds.{message, newest, present}
-use Rattle.protocol.specs.Readable.{isSent, endingFits, viewTagFits, sentFits, phaseFits, headerFits, lastView, viewFits, serverFits, clientFits, zeroMessage, messageFits, takenAnswer}
+use Rattle.protocol.specs.declared.Message.{Message}
+use Rattle.protocol.specs.Tools.{if, bit, within, countTo, allTo}
+use Rattle.protocol.specs.Sizes.{clients, servers, views, messages}
+use Rattle.protocol.specs.Entries.{entryFits}
+use Rattle.protocol.specs.Servers.{END, isRequest}
+use Rattle.protocol.specs.Clients.{isEnding}
+use Rattle.protocol.specs.Worlds.{World, message, present}
+use Rattle.protocol.specs.Readable.{isSent, endingFits, sentFits, phaseFits, headerFits, lastView, viewFits, serverFits, clientFits, zeroMessage, messageFits, takenAnswer}
 use Rattle.codec.specs.Layout.{imageSize, headerWidth}
 use Rattle.codec.specs.Lists.{part}
 use Rattle.codec.specs.Bytes.{Bytes}
@@ -28,37 +26,16 @@ use Rattle.codec.specs.Images.{decode}
 use Rattle.codec.specs.Laws.{decode-full, used-decode, view-decode, server-decode, client-decode, message-decode}
 use Rattle.codec.specs.Spelling.{both, join, headerPlain}
 use Rattle.codec.specs.Whole.{Plain, viewPlainAt, serverPlainAt, clientPlainAt, messagePlainAt, all-at, all-of, encode-decode, plain-image}
+use Rattle.values.specs.Records.{viewRule, keyRule, serverRule, messageRule}
 use Rattle.image.specs.Tests.{as-one}
 use Rattle.image.specs.Counts.{Each, sumTo}
 use Rattle.image.specs.Formed.{Formed, formed, well-formed, Headed, headed, present-in}
 use Rattle.image.specs.Chains.{chainSound, links, isTaken, chainsFit, chains-fit, taken-parts}
 use Rattle.image.specs.Readable.{readable, Read, read, read-back}
 
--- ---- the tests of single records
-
-unfoldable pub viewRule : ℕ → ℕ → View → Bool
-viewRule last t v = if (leb t last) (sized v) (eqb (v .members) 0 && eqb (v .f) 0)
-
--- "a correct server has no key but its own view's"
-unfoldable pub keyRule : Server → Bool
-keyRule a = a .faulty || (eqb (a .keys) 0 || eqb (a .keys) (bitOf (a .view .0)))
-
-unfoldable pub serverRule : ℕ → Server → Bool
-serverRule newest a = leb (a .view .0) newest && (ltb (a .keys) (2 ^ newest) && (keyRule a && entryFits (a .entry)))
-
--- "view u8 (0 for 1 and 2)", else 1 to newest
-abbrev pub tagRule : ℕ → ℕ → ℕ → Bool
-tagRule newest kind t = if (leb kind WRITE) (eqb t 0) (within 1 newest t)
-
--- a client's record by its phase
-abbrev pub kindRule : ℕ → Bool
-kindRule kind = within WRITES READS kind
-
-abbrev pub idleRule : Client → Bool
-idleRule a = leb (a .kind) READS && (not (eqb (a .kind) NONE) || same (a .entry) empty)
-
-abbrev pub askingRule : Client → Bool
-askingRule a = eqb (countOf (a .entry)) 0 && (eqb (writerOf (a .entry)) 0 && (eqb (a .kind) WRITES || eqb (a .entry .value) 0))
+-- "an answer's request has kind 1 to 3"
+abbrev pub isAsked : World → ℕ → Bool
+isAsked w n = present w n && isRequest (message w n .kind)
 
 -- the last view that is not zero
 unfoldable pub lastOf : Administrator → ℕ
@@ -147,9 +124,10 @@ pub end-rule : (i : List ℕ) (a : Administrator) (n : MessageNumber) → a ≡ 
 unfolding decode
 end-rule i a n f = rw f
 
-pub tag-rule : (i : List ℕ) (newest kind t : ℕ) → newest ≡ administratorAt i .newest .0 → tagRule newest kind t ≡ viewTagFits (decode i) kind t
-unfolding decode
-tag-rule i newest kind t e = rw e
+pub sent-rule : (i : List ℕ) (newest : ℕ) (m : Message) → newest ≡ administratorAt i .newest .0
+    → messageRule newest m (isAsked (decode i) (m .request .0)) ≡ sentFits (decode i) m
+unfolding messageRule sentFits decode
+sent-rule i newest m e = rw e
 
 pub beyond-rule : (i : List ℕ) (used n : ℕ) → used ≡ usedAt i → n ≤ messages
     → messageFits (decode i) n ≡ if (leb n used) (sentFits (decode i) (messageAt i n)) (zeroMessage (messageAt i n))

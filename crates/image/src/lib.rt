@@ -4,5 +4,4 @@ pub mod fresh;
 pub mod plain;
 pub mod premise;
 pub mod readable;
-mod records;
 mod sent;

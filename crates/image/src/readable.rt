@@ -14,9 +14,6 @@ use super::plain::header_plain;
 use super::plain::message_plain;
 use super::plain::server_plain;
 use super::plain::view_plain;
-use super::records::server_fits;
-use super::records::view_fits;
-use super::records::zero_message;
 use super::sent::client_fits;
 use super::sent::header_fits;
 use super::sent::message_fits;
@@ -44,6 +41,7 @@ use protocol::limits::CLIENTS;
 use protocol::limits::MESSAGES;
 use protocol::limits::SERVERS;
 use protocol::limits::VIEWS;
+use values::records;
 
 fn header_ok(image: &[u8]) -> bool
     requires { ⌜ length (now image) ≡ imageSize ⌝ }
@@ -65,7 +63,7 @@ fn view_ok(image: &[u8], t: ViewNumber, last: ViewNumber) -> bool
         return false;
     }
     let v = load_view(image, t);
-    view_fits(v, t, last)
+    records::view_fits(v, t, last)
 }
 
 // The last view that is not zero.
@@ -104,7 +102,7 @@ fn server_ok(image: &[u8], s: ServerNumber, newest: ViewNumber) -> bool
         return false;
     }
     let v = load_server(image, s);
-    server_fits(v, newest)
+    records::server_fits(v, newest)
 }
 
 fn servers_ok(image: &[u8], newest: ViewNumber) -> bool
@@ -151,7 +149,7 @@ fn first_ok(image: &[u8]) -> bool
         return false;
     }
     let m = load_message(image, MessageNumber(0));
-    zero_message(m)
+    records::zero_message(m)
 }
 
 fn message_ok(image: &[u8], n: MessageNumber, used: u16, newest: ViewNumber) -> bool

@@ -4,16 +4,11 @@ ghost use Prim.Native.Nat.{_≤_};
 ghost use lib.ListN.{length};
 ghost use Rattle.protocol.specs.Sizes.{clients, messages};
 ghost use Rattle.protocol.specs.Worlds.{present as presentIn};
-ghost use Rattle.protocol.specs.Readable.{isSent, endingFits, headerFits, phaseFits, clientFits, requestFits, sentFits, messageFits};
+ghost use Rattle.protocol.specs.Readable.{isSent, endingFits, headerFits, phaseFits, clientFits, sentFits, messageFits};
 ghost use Rattle.codec.specs.Layout.{imageSize};
 ghost use Rattle.codec.specs.Places.{usedAt, administratorAt};
 ghost use Rattle.codec.specs.Images.{decode};
-ghost use Rattle.image.specs.Scan.{Open, idleRule, askingRule, kindRule};
-use super::records::entry_zero;
-use super::records::next_fits;
-use super::records::sender_fits;
-use super::records::tag_fits;
-use super::records::zero_message;
+ghost use Rattle.image.specs.Scan.{Open, isAsked};
 use codec::places::load_administrator;
 use codec::places::load_client;
 use codec::places::load_message;
@@ -25,18 +20,14 @@ use protocol::Message;
 use protocol::MessageNumber;
 use protocol::Phase;
 use protocol::ViewNumber;
-use protocol::kinds::ANSWER;
 use protocol::kinds::END;
-use protocol::kinds::NONE;
 use protocol::kinds::READ;
-use protocol::kinds::READS;
 use protocol::kinds::WRITE;
-use protocol::kinds::WRITES;
 use protocol::limits::MESSAGES;
 use protocol::limits::VIEWS;
 use values::entries::entry_fits;
-use values::entries::is_empty;
 use values::entries::same;
+use values::records;
 
 // A message of that number was sent.
 pub fn present(image: &[u8], n: MessageNumber) -> bool
@@ -44,11 +35,7 @@ pub fn present(image: &[u8], n: MessageNumber) -> bool
     ensures { λ r. ⌜ r ≡ presentIn (decode (now (image .entry))) (n .0) ⌝ }
 {
     let used = load_used(image);
-    let k = n.0;
-    if k < 1 {
-        return false;
-    }
-    k <= used
+    records::number_within(n, used)
 }
 
 // Message n was sent, and is of that kind and sender.
@@ -104,35 +91,25 @@ pub fn header_fits(image: &[u8]) -> bool
     if MESSAGES < used {
         return false;
     }
-    if newest.0 < 1 {
-        return false;
-    }
-    if VIEWS < newest.0 {
+    if !records::view_within(newest, ViewNumber(VIEWS)) {
         return false;
     }
     ending_fits(image, a)
 }
 
-// "an answer's request has kind 1 to 3"; "taken u8 (0 or 1) and request u16 (both 0 but in answers)"
-fn request_fits(image: &[u8], m: Message) -> bool
+// "an answer's request has kind 1 to 3"
+fn is_asked(image: &[u8], n: MessageNumber) -> bool
     requires { ⌜ Open (now image) ⌝ }
-    ensures { λ r. ⌜ r ≡ requestFits (decode (now (image .entry))) m ⌝ }
+    ensures { λ r. ⌜ r ≡ isAsked (decode (now (image .entry))) (n .0) ⌝ }
 {
-    let request = m.request;
-    if m.kind == ANSWER {
-        if !present(image, request) {
-            return false;
-        }
-        let asked = load_message(image, request);
-        if asked.kind < READ {
-            return false;
-        }
-        return asked.kind <= END;
-    }
-    if m.taken {
+    if !present(image, n) {
         return false;
     }
-    request.0 == 0
+    let m = load_message(image, n);
+    if m.kind < READ {
+        return false;
+    }
+    m.kind <= END
 }
 
 // A message that was sent.
@@ -140,30 +117,9 @@ fn sent_fits(image: &[u8], m: Message, newest: ViewNumber) -> bool
     requires { ⌜ Open (now image) × (newest .0 ≡ administratorAt (now image) .newest .0) ⌝ }
     ensures { λ r. ⌜ r ≡ sentFits (decode (now (image .entry))) m ⌝ }
 {
-    let view = m.view;
-    let entry = m.entry;
-    if m.kind < READ {
-        return false;
-    }
-    if ANSWER < m.kind {
-        return false;
-    }
-    if !sender_fits(m.kind, m.sender) {
-        return false;
-    }
-    if !tag_fits(newest, m.kind, view) {
-        return false;
-    }
-    if !request_fits(image, m) {
-        return false;
-    }
-    if !next_fits(m) {
-        return false;
-    }
-    if !entry_zero(m) {
-        return false;
-    }
-    entry_fits(entry)
+    let request = m.request;
+    let asked = is_asked(image, request);
+    records::message_fits(m, newest, asked)
 }
 
 // "messages beyond used are zero"
@@ -175,63 +131,7 @@ pub fn message_fits(image: &[u8], n: MessageNumber, used: u16, newest: ViewNumbe
     if n.0 <= used {
         return sent_fits(image, m, newest);
     }
-    zero_message(m)
-}
-
-// "Kind 0 goes only with phase 0 and the empty entry."
-fn idle_fits(a: Client) -> bool
-    ensures { λ r. ⌜ r ≡ idleRule a ⌝ }
-{
-    let entry = a.entry;
-    if READS < a.kind {
-        return false;
-    }
-    if a.kind != NONE {
-        return true;
-    }
-    is_empty(entry)
-}
-
-// "in phase 1 of a write only its value is set, of a read it is zero"
-fn asking_fits(a: Client) -> bool
-    ensures { λ r. ⌜ r ≡ askingRule a ⌝ }
-{
-    let entry = a.entry;
-    let stamp = entry.stamp;
-    let count = stamp.count;
-    if count.0 != 0 {
-        return false;
-    }
-    if stamp.writer != 0 {
-        return false;
-    }
-    if a.kind == WRITES {
-        return true;
-    }
-    entry.value == 0
-}
-
-// An open phase is that of a write or a read.
-fn kind_fits(kind: u8) -> bool
-    ensures { λ r. ⌜ r ≡ kindRule kind ⌝ }
-{
-    if kind < WRITES {
-        return false;
-    }
-    kind <= READS
-}
-
-fn reading_fits(image: &[u8], c: u8, a: Client, n: MessageNumber) -> bool
-    requires { ⌜ Open (now image) ⌝ }
-    ensures { λ r. ⌜ r ≡ phaseFits (decode (now (image .entry))) c a (Phase.Reading n) ⌝ }
-{
-    if !kind_fits(a.kind) {
-        return false;
-    }
-    if !is_sent(image, n, READ, c) {
-        return false;
-    }
-    asking_fits(a)
+    records::zero_message(m)
 }
 
 // "in phase 2 it is what is written"
@@ -240,7 +140,7 @@ fn writing_fits(image: &[u8], c: u8, a: Client, n: MessageNumber) -> bool
     ensures { λ r. ⌜ r ≡ phaseFits (decode (now (image .entry))) c a (Phase.Writing n) ⌝ }
 {
     let own = a.entry;
-    if !kind_fits(a.kind) {
+    if !records::kind_fits(a.kind) {
         return false;
     }
     if !is_sent(image, n, WRITE, c) {
@@ -257,8 +157,11 @@ fn phase_fits(image: &[u8], c: u8, a: Client) -> bool
 {
     let phase = a.phase;
     match phase {
-        Phase::Idle => idle_fits(a),
-        Phase::Reading(n) => reading_fits(image, c, a, n),
+        Phase::Idle => records::idle_fits(a),
+        Phase::Reading(n) => {
+            let sent = is_sent(image, n, READ, c);
+            records::reading_fits(a, sent)
+        }
         Phase::Writing(n) => writing_fits(image, c, a, n),
     }
 }

@@ -1,6 +1,7 @@
 use mathlib.Core.Path.{sym, _∙_}
 use borrow.Author.Needs.{needs}
 use borrow.Author.Tests.{not-true, not-false}
+use Rattle.values.specs.Records.{pass}
 use Rattle.checked.specs.Ranges.{clientInRange}
 use Rattle.checked.proofs.ranges.client_in_range.Statement.{statement}
 use Rattle.checked.proofs.ranges.client_in_range.Tie as tie
@@ -10,7 +11,7 @@ entry-fits-requires c κs = search needs
 
 returns : tie.Need-returns
 unfolding clientInRange
-returns c = simp (sym (c .before .entry-fits .ensures) ∙ not-true (c .before .entry-fits .result) (c .if1 .taken))
+returns c = rw (sym (c .before .entry-fits .ensures) ∙ not-true _ (c .if1 .taken))
 
 enum-told : tie.Need-enum-told
 enum-told c = search needs
@@ -21,41 +22,45 @@ idle-fits-requires c κs = search needs
 enum-known-phase : tie.Need-enum-known-phase
 enum-known-phase c = search needs
 
+number-fits-requires : tie.Need-number-fits-requires
+number-fits-requires c κs = search needs
+
 reading-fits-requires : tie.Need-reading-fits-requires
 reading-fits-requires c κs = search needs
 
 enum-known-phase-2 : tie.Need-enum-known-phase-2
 enum-known-phase-2 c = search needs
 
-writing-fits-requires : tie.Need-writing-fits-requires
-writing-fits-requires c κs = search needs
+kind-fits-requires : tie.Need-kind-fits-requires
+kind-fits-requires c κs = search needs
 
 returns-2 : tie.Need-returns-2
 unfolding clientInRange
 returns-2 c =
-    simp (
-      c .idle-fits .ensures,
-      c .before .enum-told .given .1,
-      sym (c .before .before .before .before .entry-fits .ensures) ∙ not-false (c .before .before .before .before .entry-fits .result) (c .before .before .before .if1 .left),
-    )
+    pass (sym (c .before .before .before .before .before .before .entry-fits .ensures) ∙ not-false _ (c .before .before .before .before .before .if1 .left))
+    (rw (c .before .before .before .phase2 .given .1) (rw (sym (c .before .kind-fits .ensures) ∙ not-true _ (c .if2 .taken))))
+
+number-fits-requires-2 : tie.Need-number-fits-requires-2
+number-fits-requires-2 c κs = search needs
 
 returns-3 : tie.Need-returns-3
 unfolding clientInRange
 returns-3 c =
-    simp (
-      c .reading-fits .ensures,
-      c .before .before .phase .given .1,
-      sym (c .before .before .before .before .before .entry-fits .ensures) ∙ not-false (c .before .before .before .before .before .entry-fits .result) (c .before .before .before .before .if1 .left),
-    )
+    pass (sym (c .before .before .before .before .entry-fits .ensures) ∙ not-false _ (c .before .before .before .if1 .left))
+    (rw (c .before .enum-told .given .1) (c .idle-fits .ensures))
 
 returns-4 : tie.Need-returns-4
 unfolding clientInRange
 returns-4 c =
-    simp (
-      c .writing-fits .ensures,
-      c .before .before .phase2 .given .1,
-      sym (c .before .before .before .before .before .entry-fits .ensures) ∙ not-false (c .before .before .before .before .before .entry-fits .result) (c .before .before .before .before .if1 .left),
-    )
+    pass (sym (c .before .before .before .before .before .before .entry-fits .ensures) ∙ not-false _ (c .before .before .before .before .before .if1 .left))
+    (rw (c .before .before .before .phase .given .1, ← c .before .number-fits .ensures) (c .reading-fits .ensures))
+
+returns-5 : tie.Need-returns-5
+unfolding clientInRange
+returns-5 c =
+    pass (sym (c .before .before .before .before .before .before .before .entry-fits .ensures) ∙ not-false _ (c .before .before .before .before .before .before .if1 .left))
+    (rw (c .before .before .before .before .phase2 .given .1)
+    (pass (sym (c .before .before .kind-fits .ensures) ∙ not-false _ (c .before .if2 .left)) (c .number-fits2 .ensures)))
 
 pub client-in-range-spec : {M : Type 1} → statement M
 client-in-range-spec =
@@ -66,9 +71,12 @@ client-in-range-spec =
     enum-told
     idle-fits-requires
     enum-known-phase
+    number-fits-requires
     reading-fits-requires
     enum-known-phase-2
-    writing-fits-requires
+    kind-fits-requires
     returns-2
+    number-fits-requires-2
     returns-3
-    returns-4)
+    returns-4
+    returns-5)

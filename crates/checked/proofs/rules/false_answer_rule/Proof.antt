@@ -1,6 +1,6 @@
 use mathlib.Core.Path.{sym, _∙_}
 use borrow.Author.Needs.{needs}
-use borrow.Author.Tests.{le-leb, lt-leb, not-true, not-false}
+use borrow.Author.Tests.{not-true, not-false}
 use Rattle.protocol.specs.Tools.{guard}
 use Rattle.checked.specs.Rules.{falseAnswerRule}
 use Rattle.checked.proofs.rules.false_answer_rule.Statement.{statement}
@@ -24,37 +24,29 @@ returns-2 c =
       sym (c .before .before .before .server-in-range .ensures) ∙ not-false (c .before .before .before .server-in-range .result) (c .before .before .if1 .left),
     )
 
+view-within-requires : tie.Need-view-within-requires
+view-within-requires c κs = search needs
+
 returns-3 : tie.Need-returns-3
 unfolding falseAnswerRule guard
 returns-3 c =
     simp (
-      lt-leb _ _ (c .if3 .taken),
+      sym (c .before .view-within .ensures) ∙ not-true (c .before .view-within .result) (c .if3 .taken),
       sym (c .before .before .before .message-in-range .ensures) ∙ not-false (c .before .before .before .message-in-range .result) (c .before .before .if2 .left),
       sym (c .before .before .before .before .before .server-in-range .ensures) ∙ not-false (c .before .before .before .before .before .server-in-range .result) (c .before .before .before .before .if1 .left),
-    )
-
-returns-4 : tie.Need-returns-4
-unfolding falseAnswerRule guard
-returns-4 c =
-    simp (
-      lt-leb _ _ (c .if4 .taken),
-      le-leb _ _ (c .before .before .if3 .left),
-      sym (c .before .before .before .before .before .message-in-range .ensures) ∙ not-false (c .before .before .before .before .before .message-in-range .result) (c .before .before .before .before .if2 .left),
-      sym (c .before .before .before .before .before .before .before .server-in-range .ensures) ∙ not-false (c .before .before .before .before .before .before .before .server-in-range .result) (c .before .before .before .before .before .before .if1 .left),
     )
 
 may-answer-requires : tie.Need-may-answer-requires
 may-answer-requires c κs = search needs
 
-returns-5 : tie.Need-returns-5
+returns-4 : tie.Need-returns-4
 unfolding falseAnswerRule guard
-returns-5 c =
+returns-4 c =
     simp (
       c .may-answer .ensures,
-      le-leb _ _ (c .before .if4 .left),
-      le-leb _ _ (c .before .before .before .if3 .left),
-      sym (c .before .before .before .before .before .before .message-in-range .ensures) ∙ not-false (c .before .before .before .before .before .before .message-in-range .result) (c .before .before .before .before .before .if2 .left),
-      sym (c .before .before .before .before .before .before .before .before .server-in-range .ensures) ∙ not-false (c .before .before .before .before .before .before .before .before .server-in-range .result) (c .before .before .before .before .before .before .before .if1 .left),
+      sym (c .before .before .view-within .ensures) ∙ not-false (c .before .before .view-within .result) (c .before .if3 .left),
+      sym (c .before .before .before .before .message-in-range .ensures) ∙ not-false (c .before .before .before .before .message-in-range .result) (c .before .before .before .if2 .left),
+      sym (c .before .before .before .before .before .before .server-in-range .ensures) ∙ not-false (c .before .before .before .before .before .before .server-in-range .result) (c .before .before .before .before .before .if1 .left),
     )
 
 pub false-answer-rule-spec : {M : Type 1} → statement M
@@ -65,7 +57,7 @@ false-answer-rule-spec =
     returns
     message-in-range-requires
     returns-2
+    view-within-requires
     returns-3
-    returns-4
     may-answer-requires
-    returns-5)
+    returns-4)

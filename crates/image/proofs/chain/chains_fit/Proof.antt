@@ -3,7 +3,7 @@ use mathlib.Core.Bool.{true}
 use Prim.Native.Nat.{_+_, _*_, _-_, _≤_}
 use native.Mathlib.Omega.{arith}
 use borrow.Author.Needs.{needs}
-use Rattle.image.specs.Tests.{pass}
+use Rattle.values.specs.Records.{pass}
 use Rattle.codec.specs.Images.{decode}
 use Rattle.image.specs.Scan.{open-used, chains-rule}
 use Rattle.protocol.specs.Tools.{countTo, allTo}

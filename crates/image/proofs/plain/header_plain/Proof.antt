@@ -5,7 +5,7 @@ use lib.ListN.{getD}
 use lib.Dec.{eqb}
 use borrow.Author.Tests.{eq-eqb, ne-eqb, le-leb, lt-leb, not-true, not-false}
 use borrow.Author.Needs.{needs}
-use Rattle.image.specs.Tests.{pass}
+use Rattle.values.specs.Records.{pass}
 use Rattle.codec.specs.Spelling.{headerPlain}
 use Rattle.image.proofs.plain.header_plain.Statement.{statement}
 use Rattle.image.proofs.plain.header_plain.Tie as tie

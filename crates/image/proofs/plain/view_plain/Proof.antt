@@ -1,7 +1,7 @@
 use mathlib.Core.Path.{refl}
 use borrow.Author.Tests.{eq-eqb, ne-eqb}
 use borrow.Author.Needs.{needs}
-use Rattle.image.specs.Tests.{pass}
+use Rattle.values.specs.Records.{pass}
 use Rattle.codec.specs.Spelling.{viewPlain}
 use Rattle.image.proofs.plain.view_plain.Statement.{statement}
 use Rattle.image.proofs.plain.view_plain.Tie as tie

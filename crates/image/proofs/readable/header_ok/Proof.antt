@@ -1,7 +1,7 @@
 use mathlib.Core.Path.{ap, sym, _∙_}
 use borrow.Author.Tests.{not-true, not-false}
 use borrow.Author.Needs.{needs}
-use Rattle.image.specs.Tests.{pass}
+use Rattle.values.specs.Records.{pass}
 use Rattle.image.specs.Scan.{headerOk}
 use Rattle.codec.specs.Spelling.{headerPlain}
 use Rattle.codec.specs.Lists.{span}

@@ -1,4 +1,5 @@
 use borrow.Author.Needs.{needs}
+use Rattle.image.specs.Scan.{open-used}
 use Rattle.image.proofs.sent.phase_fits.Statement.{statement}
 use Rattle.image.proofs.sent.phase_fits.Tie as tie
 
@@ -10,6 +11,9 @@ idle-fits-requires c κs = search needs
 
 enum-known-phase : tie.Need-enum-known-phase
 enum-known-phase c = search needs
+
+is-sent-requires : tie.Need-is-sent-requires
+is-sent-requires c κs = (search needs, open-used (c .before .before .before .before .args .image .now) (c .before .before .before .before .pre))
 
 reading-fits-requires : tie.Need-reading-fits-requires
 reading-fits-requires c κs = search needs
@@ -24,7 +28,7 @@ returns : tie.Need-returns
 returns c = rw (c .before .enum-told .given .1) (c .idle-fits .ensures)
 
 returns-2 : tie.Need-returns-2
-returns-2 c = rw (c .before .before .phase .given .1) (c .reading-fits .ensures)
+returns-2 c = rw (c .before .before .before .phase .given .1, ← c .before .is-sent .ensures) (c .reading-fits .ensures)
 
 returns-3 : tie.Need-returns-3
 returns-3 c = rw (c .before .before .phase2 .given .1) (c .writing-fits .ensures)
@@ -36,6 +40,7 @@ phase-fits-spec =
     enum-told
     idle-fits-requires
     enum-known-phase
+    is-sent-requires
     reading-fits-requires
     enum-known-phase-2
     writing-fits-requires

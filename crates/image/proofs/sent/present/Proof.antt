@@ -1,8 +1,7 @@
-use mathlib.Core.Path.{ap}
-use lib.Dec.{leb}
-use borrow.Author.Tests.{le-leb, lt-leb}
+use Prim.Native.Nat.{ℕ}
+use mathlib.Core.Path.{ap, _∙_}
 use borrow.Author.Needs.{needs}
-use Rattle.image.specs.Tests.{pass}
+use Rattle.protocol.specs.Tools.{within}
 use Rattle.protocol.specs.Worlds.{present}
 use Rattle.codec.specs.Images.{decode}
 use Rattle.image.proofs.sent.present.Statement.{statement}
@@ -11,13 +10,14 @@ use Rattle.image.proofs.sent.present.Tie as tie
 load-used-requires : tie.Need-load-used-requires
 load-used-requires c κs = search needs
 
+number-within-requires : tie.Need-number-within-requires
+number-within-requires c κs = search needs
+
 returns : tie.Need-returns
 unfolding present decode
-returns c = rw (lt-leb _ _ (c .if1 .taken))
-
-returns-2 : tie.Need-returns-2
-unfolding present decode
-returns-2 c = pass (le-leb _ _ (c .if1 .left)) (ap (leb (c .before .before .before .args .n .0)) (c .before .load-used .ensures))
+returns c =
+    let n = c .before .before .before .args .n .0 in
+    c .number-within .ensures ∙ ap (λ (k : ℕ). within 1 k n) (c .before .load-used .ensures)
 
 pub present-spec : {M : Type 1} → statement M
-present-spec = tie.close (tie.spec load-used-requires returns returns-2)
+present-spec = tie.close (tie.spec load-used-requires number-within-requires returns)

@@ -1,110 +1,22 @@
-use mathlib.Core.Path.{sym, _∙_}
-use borrow.Author.Tests.{le-leb, lt-leb, not-true, not-false}
+use mathlib.Core.Path.{ap, _∙_}
 use borrow.Author.Needs.{needs}
-use Rattle.image.specs.Tests.{pass}
-use Rattle.protocol.specs.Readable.{sentFits}
-use Rattle.image.specs.Scan.{tag-rule}
-use Rattle.codec.specs.Spelling.{join}
+use Rattle.values.specs.Records.{messageRule}
+use Rattle.image.specs.Scan.{sent-rule}
 use Rattle.image.proofs.sent.sent_fits.Statement.{statement}
 use Rattle.image.proofs.sent.sent_fits.Tie as tie
 
+is-asked-requires : tie.Need-is-asked-requires
+is-asked-requires c κs = search needs
+
+message-fits-requires : tie.Need-message-fits-requires
+message-fits-requires c κs = search needs
+
 returns : tie.Need-returns
-unfolding sentFits
-returns c = rw (lt-leb _ _ (c .if1 .taken))
-
-returns-2 : tie.Need-returns-2
-unfolding sentFits
-returns-2 c = rw (le-leb _ _ (c .before .before .if1 .left), lt-leb _ _ (c .if2 .taken))
-
-sender-fits-requires : tie.Need-sender-fits-requires
-sender-fits-requires c κs = search needs
-
-returns-3 : tie.Need-returns-3
-unfolding sentFits
-returns-3 c =
-    pass (join (le-leb _ _ (c .before .before .before .before .if1 .left)) (le-leb _ _ (c .before .before .if2 .left)))
-    (rw (sym (c .before .sender-fits .ensures) ∙ not-true _ (c .if3 .taken)))
-
-tag-fits-requires : tie.Need-tag-fits-requires
-tag-fits-requires c κs = search needs
-
-returns-4 : tie.Need-returns-4
-unfolding sentFits
-returns-4 c =
-    let a = c .before .before .before .before .before .before .before .before .before .before .before .args in
-    pass (join (le-leb _ _ (c .before .before .before .before .before .before .if1 .left)) (le-leb _ _ (c .before .before .before .before .if2 .left)))
-    (pass (sym (c .before .before .before .sender-fits .ensures) ∙ not-false _ (c .before .before .if3 .left))
-    (rw (sym (c .before .tag-fits .ensures ∙ tag-rule (a .image .now) (a .newest .0) (a .m .kind) (a .m .view .0) (c .before .before .before .before .before .before .before .before .before .before .before .pre .1)) ∙ not-true _ (c .if4 .taken))))
-
-request-fits-requires : tie.Need-request-fits-requires
-request-fits-requires c κs = search needs
-
-returns-5 : tie.Need-returns-5
-unfolding sentFits
-returns-5 c =
-    let a = c .before .before .before .before .before .before .before .before .before .before .before .before .before .args in
-    pass (join (le-leb _ _ (c .before .before .before .before .before .before .before .before .if1 .left)) (le-leb _ _ (c .before .before .before .before .before .before .if2 .left)))
-    (pass (sym (c .before .before .before .before .before .sender-fits .ensures) ∙ not-false _ (c .before .before .before .before .if3 .left))
-    (pass (sym (c .before .before .before .tag-fits .ensures ∙ tag-rule (a .image .now) (a .newest .0) (a .m .kind) (a .m .view .0) (c .before .before .before .before .before .before .before .before .before .before .before .before .before .pre .1)) ∙ not-false _ (c .before .before .if4 .left))
-    (rw (sym (c .before .request-fits .ensures) ∙ not-true _ (c .if5 .taken)))))
-
-next-fits-requires : tie.Need-next-fits-requires
-next-fits-requires c κs = search needs
-
-returns-6 : tie.Need-returns-6
-unfolding sentFits
-returns-6 c =
-    let a = c .before .before .before .before .before .before .before .before .before .before .before .before .before .before .before .args in
-    pass (join (le-leb _ _ (c .before .before .before .before .before .before .before .before .before .before .if1 .left)) (le-leb _ _ (c .before .before .before .before .before .before .before .before .if2 .left)))
-    (pass (sym (c .before .before .before .before .before .before .before .sender-fits .ensures) ∙ not-false _ (c .before .before .before .before .before .before .if3 .left))
-    (pass (sym (c .before .before .before .before .before .tag-fits .ensures ∙ tag-rule (a .image .now) (a .newest .0) (a .m .kind) (a .m .view .0) (c .before .before .before .before .before .before .before .before .before .before .before .before .before .before .before .pre .1)) ∙ not-false _ (c .before .before .before .before .if4 .left))
-    (pass (sym (c .before .before .before .request-fits .ensures) ∙ not-false _ (c .before .before .if5 .left))
-    (rw (sym (c .before .next-fits .ensures) ∙ not-true _ (c .if6 .taken))))))
-
-entry-zero-requires : tie.Need-entry-zero-requires
-entry-zero-requires c κs = search needs
-
-returns-7 : tie.Need-returns-7
-unfolding sentFits
-returns-7 c =
-    let a = c .before .before .before .before .before .before .before .before .before .before .before .before .before .before .before .before .before .args in
-    pass (join (le-leb _ _ (c .before .before .before .before .before .before .before .before .before .before .before .before .if1 .left)) (le-leb _ _ (c .before .before .before .before .before .before .before .before .before .before .if2 .left)))
-    (pass (sym (c .before .before .before .before .before .before .before .before .before .sender-fits .ensures) ∙ not-false _ (c .before .before .before .before .before .before .before .before .if3 .left))
-    (pass (sym (c .before .before .before .before .before .before .before .tag-fits .ensures ∙ tag-rule (a .image .now) (a .newest .0) (a .m .kind) (a .m .view .0) (c .before .before .before .before .before .before .before .before .before .before .before .before .before .before .before .before .before .pre .1)) ∙ not-false _ (c .before .before .before .before .before .before .if4 .left))
-    (pass (sym (c .before .before .before .before .before .request-fits .ensures) ∙ not-false _ (c .before .before .before .before .if5 .left))
-    (pass (sym (c .before .before .before .next-fits .ensures) ∙ not-false _ (c .before .before .if6 .left))
-    (rw (sym (c .before .entry-zero .ensures) ∙ not-true _ (c .if7 .taken)))))))
-
-entry-fits-requires : tie.Need-entry-fits-requires
-entry-fits-requires c κs = search needs
-
-returns-8 : tie.Need-returns-8
-unfolding sentFits
-returns-8 c =
-    let a = c .before .before .before .before .before .before .before .before .before .before .before .before .before .before .before .before .before .before .args in
-    pass (join (le-leb _ _ (c .before .before .before .before .before .before .before .before .before .before .before .before .before .if1 .left)) (le-leb _ _ (c .before .before .before .before .before .before .before .before .before .before .before .if2 .left)))
-    (pass (sym (c .before .before .before .before .before .before .before .before .before .before .sender-fits .ensures) ∙ not-false _ (c .before .before .before .before .before .before .before .before .before .if3 .left))
-    (pass (sym (c .before .before .before .before .before .before .before .before .tag-fits .ensures ∙ tag-rule (a .image .now) (a .newest .0) (a .m .kind) (a .m .view .0) (c .before .before .before .before .before .before .before .before .before .before .before .before .before .before .before .before .before .before .pre .1)) ∙ not-false _ (c .before .before .before .before .before .before .before .if4 .left))
-    (pass (sym (c .before .before .before .before .before .before .request-fits .ensures) ∙ not-false _ (c .before .before .before .before .before .if5 .left))
-    (pass (sym (c .before .before .before .before .next-fits .ensures) ∙ not-false _ (c .before .before .before .if6 .left))
-    (pass (sym (c .before .before .entry-zero .ensures) ∙ not-false _ (c .before .if7 .left))
-    (c .entry-fits .ensures))))))
+returns c =
+    let a = c .before .before .before .before .args in
+    c .message-fits .ensures
+    ∙ ap (messageRule (a .newest .0) (a .m)) (c .before .is-asked .ensures)
+    ∙ sent-rule (a .image .now) (a .newest .0) (a .m) (c .before .before .before .before .pre .1)
 
 pub sent-fits-spec : {M : Type 1} → statement M
-sent-fits-spec =
-    tie.close
-    (tie.spec
-    returns
-    returns-2
-    sender-fits-requires
-    returns-3
-    tag-fits-requires
-    returns-4
-    request-fits-requires
-    returns-5
-    next-fits-requires
-    returns-6
-    entry-zero-requires
-    returns-7
-    entry-fits-requires
-    returns-8)
+sent-fits-spec = tie.close (tie.spec is-asked-requires message-fits-requires returns)
