@@ -100,6 +100,11 @@ pub broken : (b : Bool) (l : ℕ) → if b (some l) none ≡ none → b ≡ fals
 broken true l e = cc
 broken false l e = refl
 
+-- a message that is no request has no chain
+pub no-chain : (w : World) (r : ℕ) → isRequest (message w r .kind) ≡ false → (chainSound w r ≡ true) × (links w r ≡ 0)
+unfolding chainSound links
+no-chain w r q = (rw q, rw q)
+
 pub links-most : (w : World) (r : ℕ) → links w r ≤ messages
 unfolding links chain
 links-most w r =

@@ -3,6 +3,8 @@ ghost use mathlib.Core.Path.{_≡_};
 ghost use Prim.Native.Nat.{_+_, _≤_};
 ghost use Rattle.protocol.specs.Sizes.{messages};
 ghost use Rattle.protocol.specs.Tools.{bit};
+ghost use Rattle.protocol.specs.Servers.{isRequest};
+ghost use Rattle.protocol.specs.Worlds.{message};
 ghost use Rattle.protocol.specs.Readable.{takenAnswer};
 ghost use Rattle.codec.specs.Images.{decode};
 ghost use Rattle.image.specs.Scan.{Open};
@@ -92,6 +94,18 @@ fn taken_bit(image: &[u8], n: MessageNumber) -> u32
     m.taken as u32
 }
 
+// Message n is a request, so that it has a chain.
+fn is_request(image: &[u8], n: MessageNumber) -> bool
+    requires { ⌜ Open (now image) × (n .0 ≤ messages) ⌝ }
+    ensures { λ r. ⌜ r ≡ isRequest (message (decode (now (image .entry))) (n .0) .kind) ⌝ }
+{
+    let m = load_message(image, n);
+    if m.kind < READ {
+        return false;
+    }
+    m.kind <= END
+}
+
 // "each chain holds only taken answers of its request, all of them, each one time"
 pub fn chains_fit(image: &[u8]) -> bool
     requires { ⌜ Open (now image) ⌝ }
@@ -102,12 +116,14 @@ pub fn chains_fit(image: &[u8]) -> bool
     let mut taken = 0u32;
     for k in 0..used {
         let n = MessageNumber(k + 1);
-        let chain = chain_of(image, n);
-        let Followed::Whole(links) = chain else {
-            return false;
-        };
-        sum += links as u32;
         taken += taken_bit(image, n);
+        if is_request(image, n) {
+            let chain = chain_of(image, n);
+            let Followed::Whole(links) = chain else {
+                return false;
+            };
+            sum += links as u32;
+        }
     }
     sum == taken
 }
