@@ -7,7 +7,7 @@ use native.Mathlib.Omega.{arith}
 use lib.Dec.{leb, eqb, lit<}
 use lib.Count.{ones, ones-cat}
 use lib.Pow.{pow-pos, pow-mono, mod-pow-add}
-use borrow.Author.Tests.{eqb-true, eq-eqb, ne-eqb, le-leb}
+use borrow.Author.Tests.{eqb-true, leb-false, eq-eqb, ne-eqb, le-leb}
 use Rattle.protocol.specs.Tools.{if, bit, countTo, holds, bitOf}
 use Rattle.protocol.specs.Sizes.{servers}
 use Rattle.protocol.specs.Laws.Tests.{by-test, clash}
@@ -20,6 +20,18 @@ bitIn k = if (leb k servers) (bitOf k) 0
 pub bit-in : (k : ℕ) → k ≤ 32 → bitIn k ≡ bitOf k
 unfolding bitIn
 bit-in k h = simp (le-leb _ _ h)
+
+-- 32 bits that are not all zero are no number over 32 alone
+pub own-in : (keys k : ℕ) → keys < 2 ^ 32 → (keys ≡ 0 → ⊥) → eqb keys (bitIn k) ≡ eqb keys (bitOf k)
+unfolding bitIn bitOf
+own-in keys zero h n = refl
+own-in keys (suc k) h n = by-test (leb (suc k) servers) (λ e. rw e refl) (λ e. rw (e, ne-eqb keys 0 n) (sym (ne-eqb keys (2 ^ k) (λ q. above e q))))
+  where
+    above : leb (suc k) servers ≡ false → keys ≡ 2 ^ k → ⊥
+    above e q =
+        let l = leb-false (suc k) servers e in
+        let p : 2 ^ 32 ≤ 2 ^ k = pow-mono {i = 32} {j = k} (omega (arith, l)) in
+        omega (arith, q, p)
 
 -- bitOf and holds at a number that is not 0, without taking it apart
 pub bit-at : (k : ℕ) → 0 < k → bitOf k ≡ 2 ^ (k - 1)

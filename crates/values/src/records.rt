@@ -17,8 +17,9 @@ use protocol::kinds::WRITE;
 use protocol::kinds::WRITES;
 use protocol::limits::CLIENTS;
 use protocol::limits::SERVERS;
+use protocol::limits::VIEWS;
 ghost use mathlib.Core.Path.{_≡_};
-ghost use Prim.Native.Nat.{_≤_, _^_};
+ghost use Prim.Native.Nat.{_^_};
 ghost use lib.Dec.{ltb};
 ghost use Rattle.protocol.specs.Tools.{within};
 ghost use Rattle.protocol.specs.Readable.{senderFits, nextFits, entryZero, zeroMessage};
@@ -60,15 +61,16 @@ pub fn view_fits(v: View, t: ViewNumber, last: ViewNumber) -> bool
 
 // The keys are those of views 1 to newest.
 fn keys_within(keys: u32, newest: ViewNumber) -> bool
-    requires { ⌜ newest .0 ≤ 32 ⌝ }
     ensures { λ r. ⌜ r ≡ ltb keys (2 ^ (newest .0)) ⌝ }
 {
+    if VIEWS <= newest.0 {
+        return true;
+    }
     (keys as u64) < (1u64 << newest.0)
 }
 
 // "a correct server has no key but its own view's"
 fn key_fits(s: Server) -> bool
-    requires { ⌜ s .view .0 ≤ 32 ⌝ }
     ensures { λ r. ⌜ r ≡ keyRule s ⌝ }
 {
     let view = s.view;
@@ -84,7 +86,6 @@ fn key_fits(s: Server) -> bool
 
 // "server ... and key views do not exceed newest"; "writers are at most 16"
 pub fn server_fits(s: Server, newest: ViewNumber) -> bool
-    requires { ⌜ newest .0 ≤ 32 ⌝ }
     ensures { λ r. ⌜ r ≡ serverRule (newest .0) s ⌝ }
 {
     let view = s.view;

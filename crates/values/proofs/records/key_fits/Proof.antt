@@ -1,18 +1,18 @@
 use mathlib.Core.Bool.{false}
 use mathlib.Core.Path.{_≡_, ap, _∙_}
-use Prim.Native.Nat.{_≤_}
+use Prim.Native.Nat.{_<_, _^_}
 use lib.Dec.{eqb}
 use borrow.Author.Tests.{eq-eqb, ne-eqb}
 use borrow.Author.Needs.{needs}
 use Rattle.protocol.specs.declared.Server.{Server}
-use Rattle.values.specs.Bits.{bitIn, bit-in}
+use Rattle.values.specs.Bits.{bitIn, own-in}
 use Rattle.values.specs.Records.{keyRule}
 use Rattle.values.proofs.records.key_fits.Statement.{statement}
 use Rattle.values.proofs.records.key_fits.Tie as tie
 
-own : (s : Server) → s .view .0 ≤ 32 → s .faulty ≡ false → eqb (s .keys) 0 ≡ false → eqb (s .keys) (bitIn (s .view .0)) ≡ keyRule s
+own : (s : Server) → s .keys < 2 ^ 32 → s .faulty ≡ false → (s .keys ≡ 0 → ⊥) → eqb (s .keys) (bitIn (s .view .0)) ≡ keyRule s
 unfolding keyRule
-own s h e f = simp (e, f, bit-in _ h)
+own s h e f = simp (e, ne-eqb (s .keys) 0 f, own-in (s .keys) (s .view .0) h f)
 
 returns : tie.Need-returns
 unfolding keyRule
@@ -29,7 +29,7 @@ returns-3 : tie.Need-returns-3
 returns-3 c =
     let s = c .before .before .before .before .before .before .args .s in
     ap (eqb (s .keys)) (c .before .bit-of .ensures)
-    ∙ own s (c .before .before .before .before .before .before .pre) (c .before .before .before .before .if1 .left) (ne-eqb _ _ (c .before .before .if2 .left))
+    ∙ own s (search needs) (c .before .before .before .before .if1 .left) (c .before .before .if2 .left)
 
 pub key-fits-spec : {M : Type 1} → statement M
 key-fits-spec = tie.close (tie.spec returns returns-2 bit-of-requires returns-3)
