@@ -11,7 +11,7 @@ use borrow.Author.Tests.{le-leb, lt-leb, eq-eqb, ne-eqb}
 use Rattle.protocol.specs.declared.Client.{Client}
 use Rattle.protocol.specs.declared.Step.{Step}
 use Rattle.protocol.specs.Tools.{if, within, Result, refused, done, guard}
-use Rattle.protocol.specs.Sizes.{clients}
+use Rattle.protocol.specs.Sizes.{clients, viewWith}
 use Rattle.protocol.specs.Steps.{After, step}
 use Rattle.protocol.specs.Runs.{stepWidth, stepOf}
 use Rattle.protocol.specs.Sizes.{sized}
@@ -118,9 +118,9 @@ does-legible r l l′ b h e d = subst (Does r l l′) (sym (step-legible l b h e
 -- the fresh world's
 refused-by-size : (members f n : ℕ) → fresh members f ≡ refused n → n ≡ 8
 unfolding fresh guard
-refused-by-size members f n e = go (sized (record { members = members; f = f })) e
+refused-by-size members f n e = go (sized (viewWith members f)) e
   where
-    go : (b : Bool) → guard b 8 (done (freshWorld (record { members = members; f = f }))) ≡ refused n → n ≡ 8
+    go : (b : Bool) → guard b 8 (done (freshWorld (viewWith members f))) ≡ refused n → n ≡ 8
     go true e = let z : _≡_ {A = ℕ} 0 1 = cc in absurd (omega arith)
     go false e = cc
 

@@ -19,7 +19,7 @@ sumTo g (suc n) = sumTo g n + g (suc n)
 
 -- view t is not above the server's own, or it holds the key of t
 unfoldable pub reached : Server → ℕ → Bool
-reached a t = leb t (a .view .0) || holds (a .keys) t
+reached a t = leb t (a .view .0) || holds (a .keys .0) t
 
 -- how far a server has come: the views that it has reached, and one more if it is faulty
 unfoldable pub gained : Server → ℕ

@@ -5,7 +5,7 @@ use mathlib.Core.Option.{none, some}
 use mathlib.Core.Path.{_≡_, refl}
 use Rattle.checked.specs.Types.{Entry, Server, Phase, Idle, Reading, Writing, Client, Settled, EndSent, Administrator, Message}
 use Rattle.protocol.specs.Tools.{countTo, holds, bitOf, Result, refused, done, guard}
-use Rattle.protocol.specs.Sizes.{quorum, size, sized, writeSize}
+use Rattle.protocol.specs.Sizes.{quorum, size, sized, writeSize, viewWith}
 use Rattle.protocol.specs.Entries.{entry, empty, below, larger, same, entryFits}
 use Rattle.protocol.specs.Servers.{READ, WRITE, END, START, ANSWER, Reply, keeping, withoutKey, joining, serve}
 use Rattle.protocol.specs.Clients.{NONE, WRITES, number, begin, toWrite, countLeft, close, call, advance}
@@ -16,7 +16,7 @@ use Rattle.checked.specs.Ranges.{numberFits, serverInRange, messageInRan
 use Rattle.checked.specs.Rules.{serveRule, writeRule, takeRule, closeRule, callRule, advanceRule}
 
 server : ℕ → ℕ → Entry → Server
-server t keys e = record { view = record { 0 = t }; faulty = false; keys = keys; entry = e }
+server t keys e = record { view = record { 0 = t }; faulty = false; keys = record { 0 = keys }; entry = e }
 
 client : Phase → ℕ → Entry → Client
 client p kind e = record { phase = p; kind = kind; entry = e }
@@ -60,7 +60,7 @@ read-taken : takeRule (answer 1 1 1 empty) 1 ≡ done (answer 1 1 1 empty)
 unfolding answer takeRule guard messageInRange messageRule entryFits same numberFits
 read-taken = refl
 
-read-closes : closesAt (firstAnswer (answer 1 1 1 empty)) (writeSize (record { members = 1; f = 0 })) ≡ some empty
+read-closes : closesAt (firstAnswer (answer 1 1 1 empty)) (writeSize (viewWith 1 0)) ≡ some empty
 unfolding answer closesAt firstAnswer bitIn bitOf holds countTo writeSize quorum size
 read-closes = refl
 
@@ -79,7 +79,7 @@ unfolding client closeRule guard clientInRange entryFits numberFits close
 write-complete = refl
 
 -- view 2 is called
-view-called : callRule (administrator 1) (record { members = 3; f = 0 }) 5 ≡ done (ending 1 5)
+view-called : callRule (administrator 1) (viewWith 3 0) 5 ≡ done (ending 1 5)
 unfolding administrator ending callRule guard administratorInRange numberFits call sized size countTo holds
 view-called = refl
 

@@ -37,18 +37,18 @@ entryBytes e = le32 (countOf e) ++ ((writerOf e ∷ 0 ∷ 0 ∷ 0 ∷ []) ++ le3
 
 -- "View: member bits u32 (bit s-1 is server s), f u8, 3 zero."
 unfoldable pub viewOf : List ℕ → View
-viewOf b = record { members = u32At b 0; f = getD b 4 0 }
+viewOf b = record { members = record { 0 = u32At b 0 }; f = getD b 4 0 }
 
 unfoldable pub viewBytes : View → List ℕ
-viewBytes v = le32 (v .members) ++ (v .f ∷ 0 ∷ 0 ∷ 0 ∷ [])
+viewBytes v = le32 (v .members .0) ++ (v .f ∷ 0 ∷ 0 ∷ 0 ∷ [])
 
 -- "Server: view u8 (0 none yet), faulty u8, 2 zero, key bits u32 (bit t-1), entry."
 unfoldable pub serverOf : List ℕ → Server
 serverOf b =
-    record { view = record { 0 = getD b 0 0 }; faulty = flagOf (getD b 1 0); keys = u32At b 4; entry = entryOf (part b 8 entryWidth) }
+    record { view = record { 0 = getD b 0 0 }; faulty = flagOf (getD b 1 0); keys = record { 0 = u32At b 4 }; entry = entryOf (part b 8 entryWidth) }
 
 unfoldable pub serverHead : Server → List ℕ
-serverHead s = (s .view .0 ∷ bit (s .faulty) ∷ 0 ∷ 0 ∷ []) ++ le32 (s .keys)
+serverHead s = (s .view .0 ∷ bit (s .faulty) ∷ 0 ∷ 0 ∷ []) ++ le32 (s .keys .0)
 
 unfoldable pub serverBytes : Server → List ℕ
 serverBytes s = serverHead s ++ entryBytes (s .entry)
@@ -137,10 +137,10 @@ pub record EntryFits (e : Entry) : Type 0 where
   pub value : e .value < 2 ^ 32
 
 pub record ViewFits (v : View) : Type 0 where
-  pub members : v .members < 2 ^ 32
+  pub members : v .members .0 < 2 ^ 32
 
 pub record ServerFits (s : Server) : Type 0 where
-  pub keys : s .keys < 2 ^ 32
+  pub keys : s .keys .0 < 2 ^ 32
   pub entry : EntryFits (s .entry)
 
 pub record ClientFits (c : Client) : Type 0 where

@@ -19,10 +19,12 @@ use protocol::Administrator;
 use protocol::Client;
 use protocol::Ending;
 use protocol::Entry;
+use protocol::KeySet;
 use protocol::Message;
 use protocol::MessageNumber;
 use protocol::Phase;
 use protocol::Server;
+use protocol::ServerSet;
 use protocol::Stamp;
 use protocol::StampCount;
 use protocol::Step;
@@ -73,7 +75,7 @@ pub fn read_view(b: &[u8]) -> View
 {
     let members = word4(b[0], b[1], b[2], b[3]);
     View {
-        members: members,
+        members: ServerSet(members),
         f: b[4],
     }
 }
@@ -81,7 +83,8 @@ pub fn read_view(b: &[u8]) -> View
 pub fn view_bytes(v: View) -> [u8; VIEW]
     ensures { λ r. ⌜ r ≡ viewBytes v ⌝ }
 {
-    let members = v.members;
+    let set = v.members;
+    let members = set.0;
     [
         (members % 256) as u8,
         (members / 256 % 256) as u8,
@@ -104,7 +107,7 @@ pub fn read_server(b: &[u8]) -> Server
     Server {
         view: ViewNumber(b[0]),
         faulty: faulty,
-        keys: keys,
+        keys: KeySet(keys),
         entry: entry,
     }
 }
@@ -113,7 +116,8 @@ pub fn server_head(s: Server) -> [u8; 8]
     ensures { λ r. ⌜ r ≡ serverHead s ⌝ }
 {
     let view = s.view;
-    let keys = s.keys;
+    let set = s.keys;
+    let keys = set.0;
     [
         view.0,
         s.faulty as u8,

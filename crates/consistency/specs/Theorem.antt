@@ -8,7 +8,7 @@ use lib.ListN.{length}
 use lib.Dec.{eqb}
 use borrow.Author.Tests.{eq-eqb}
 use Rattle.protocol.specs.Tools.{Result, refused, done, guard, passed}
-use Rattle.protocol.specs.Sizes.{sized}
+use Rattle.protocol.specs.Sizes.{sized, viewWith}
 use Rattle.protocol.specs.Worlds.{World, freshWorld, fresh, premise}
 use Rattle.protocol.specs.Consistent.{Consistent}
 use Rattle.codec.specs.Layout.{imageSize}
@@ -29,9 +29,9 @@ record Fresh (members f : ℕ) (i : List ℕ) : Type 0 where
 
 refused-by-size : (members f n : ℕ) → fresh members f ≡ refused n → n ≡ 8
 unfolding fresh guard
-refused-by-size members f n e = go (sized (record { members = members; f = f })) e
+refused-by-size members f n e = go (sized (viewWith members f)) e
   where
-    go : (b : Bool) → guard b 8 (done (freshWorld (record { members = members; f = f }))) ≡ refused n → n ≡ 8
+    go : (b : Bool) → guard b 8 (done (freshWorld (viewWith members f))) ≡ refused n → n ≡ 8
     go true e = let z : _≡_ {A = ℕ} 0 1 = cc in absurd (omega arith)
     go false e = cc
 

@@ -36,7 +36,7 @@ module _ (v : View) where
   fresh-full =
       record {
         view = ap suc (length-replicate 31 noView);
-        server = length-listTo (freshServer (v .members)) servers;
+        server = length-listTo (freshServer (v .members .0)) servers;
         client = length-replicate clients noClient;
         message = length-replicate (suc messages) noMessage;
       }
@@ -47,14 +47,14 @@ module _ (v : View) where
   fresh-view e (suc zero) l = e
   fresh-view e (suc (suc k)) l = rw (lt-leb (suc (suc k)) 1 (omega arith), same-again 31 k noView)
 
-  fresh-server : (b : Bool) → serverRule 1 (if b (record { view = record { 0 = 1 }; faulty = false; keys = 1; entry = noServer .entry }) noServer) ≡ true
+  fresh-server : (b : Bool) → serverRule 1 (if b (record { view = record { 0 = 1 }; faulty = false; keys = record { 0 = 1 }; entry = noServer .entry }) noServer) ≡ true
   unfolding serverRule keyRule entryFits bitOf
   fresh-server true = refl
   fresh-server false = refl
 
   fresh-servers : (s : ℕ) → 1 ≤ s → s ≤ servers → serverFits (freshWorld v) s ≡ true
   unfolding serverFits serverRule keyRule server freshWorld
-  fresh-servers s a b = rw (nth-listTo (freshServer (v .members)) servers s noServer a b) (fresh-server (holds (v .members) s))
+  fresh-servers s a b = rw (nth-listTo (freshServer (v .members .0)) servers s noServer a b) (fresh-server (holds (v .members .0) s))
 
   fresh-client : (c : ℕ) → clientFits (freshWorld v) c ≡ true
   unfolding clientFits entryFits same client freshWorld

@@ -40,7 +40,7 @@ freshOn i bits f = outcome i (guard (eqb (length i) imageSize) 1 (fresh bits f))
 
 -- a correct server with the empty entry
 abbrev pub idleServer : ℕ → ℕ → Server
-idleServer view keys = record { view = record { 0 = view }; faulty = false; keys = keys; entry = empty }
+idleServer view keys = record { view = record { 0 = view }; faulty = false; keys = record { 0 = keys }; entry = empty }
 
 -- the servers 1 to n stored one after another
 unfoldable pub seeded : List ℕ → ℕ → ℕ → List ℕ
@@ -170,25 +170,25 @@ unfolding encode blank
 blank-image =
     headed-zeros (imageSize - headerWidth) ∙ ap (λ (l : List ℕ). headerBytes 0 firstView ++ l) (sym (zero-groups views servers clients (suc messages)))
 
-seeded-fresh : (v : View) → seededWorld (withView blank 1 v) (v .members) servers ≡ freshWorld v
+seeded-fresh : (v : View) → seededWorld (withView blank 1 v) (v .members .0) servers ≡ freshWorld v
 unfolding withView blank freshWorld replace
 seeded-fresh v =
-    seeded-servers (withView blank 1 v) (v .members) servers
-    ∙ rw (← seeded-list (replicate servers noServer) (v .members) (length-replicate servers noServer))
+    seeded-servers (withView blank 1 v) (v .members .0) servers
+    ∙ rw (← seeded-list (replicate servers noServer) (v .members .0) (length-replicate servers noServer))
 
 -- "Members hold view 1, key 1 and the empty entry; all else is zero but version and newest view 1."
 fresh-image : (v : View)
-    → seeded (putView (putAdministrator (put (replicate imageSize 0) 0 (1 ∷ 0 ∷ [])) firstView) 1 v) (v .members) servers ≡ encode (freshWorld v)
+    → seeded (putView (putAdministrator (put (replicate imageSize 0) 0 (1 ∷ 0 ∷ [])) firstView) 1 v) (v .members .0) servers ≡ encode (freshWorld v)
 fresh-image v =
-    ap (λ (i : List ℕ). seeded (putView i 1 v) (v .members) servers) blank-image
-    ∙ ap (λ (i : List ℕ). seeded i (v .members) servers) (put-view blank blank-full 1 (omega arith) (omega arith) v)
-    ∙ seeded-encode (withView blank 1 v) (full-view blank blank-full 1 v) (v .members) servers (omega arith)
+    ap (λ (i : List ℕ). seeded (putView i 1 v) (v .members .0) servers) blank-image
+    ∙ ap (λ (i : List ℕ). seeded i (v .members .0) servers) (put-view blank blank-full 1 (omega arith) (omega arith) v)
+    ∙ seeded-encode (withView blank 1 v) (full-view blank blank-full 1 v) (v .members .0) servers (omega arith)
     ∙ ap encode (seeded-fresh v)
 
 pub fresh-stored : (i : List ℕ) (v : View) → length i ≡ imageSize
-    → seeded (putView (putAdministrator (put (replicate (length i) 0) 0 (1 ∷ 0 ∷ [])) firstView) 1 v) (v .members) servers ≡ encode (freshWorld v)
+    → seeded (putView (putAdministrator (put (replicate (length i) 0) 0 (1 ∷ 0 ∷ [])) firstView) 1 v) (v .members .0) servers ≡ encode (freshWorld v)
 fresh-stored i v e =
-    ap (λ (n : ℕ). seeded (putView (putAdministrator (put (zeros n) 0 (1 ∷ 0 ∷ [])) firstView) 1 v) (v .members) servers) e ∙ fresh-image v
+    ap (λ (n : ℕ). seeded (putView (putAdministrator (put (zeros n) 0 (1 ∷ 0 ∷ [])) firstView) 1 v) (v .members .0) servers) e ∙ fresh-image v
 
 pub seeded-start : (l : List ℕ) (bits : ℕ) → seeded l bits 0 ≡ l
 unfolding seeded

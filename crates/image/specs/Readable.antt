@@ -128,21 +128,21 @@ unfolding viewFits sized
 view-below w t e =
     by-test (leb t (lastView w))
     (λ q.
-    let f = sym (if-true (leb t (lastView w)) (ltb (view w t .members) (2 ^ 32) && sizeRule (size (view w t)) (view w t .f)) (eqb (view w t .members) 0 && eqb (view w t .f) 0) q) ∙ e in
-    record { members = ltb-true (view w t .members) (2 ^ 32) (both (ltb (view w t .members) (2 ^ 32)) (sizeRule (size (view w t)) (view w t .f)) f .0) })
+    let f = sym (if-true (leb t (lastView w)) (ltb (view w t .members .0) (2 ^ 32) && sizeRule (size (view w t)) (view w t .f)) (eqb (view w t .members .0) 0 && eqb (view w t .f) 0) q) ∙ e in
+    record { members = ltb-true (view w t .members .0) (2 ^ 32) (both (ltb (view w t .members .0) (2 ^ 32)) (sizeRule (size (view w t)) (view w t .f)) f .0) })
     (λ q.
-    let f = sym (if-false (leb t (lastView w)) (ltb (view w t .members) (2 ^ 32) && sizeRule (size (view w t)) (view w t .f)) (eqb (view w t .members) 0 && eqb (view w t .f) 0) q) ∙ e in
-    let z = eqb-true (view w t .members) 0 (both (eqb (view w t .members) 0) (eqb (view w t .f) 0) f .0) in
+    let f = sym (if-false (leb t (lastView w)) (ltb (view w t .members .0) (2 ^ 32) && sizeRule (size (view w t)) (view w t .f)) (eqb (view w t .members .0) 0 && eqb (view w t .f) 0) q) ∙ e in
+    let z = eqb-true (view w t .members .0) 0 (both (eqb (view w t .members .0) 0) (eqb (view w t .f) 0) f .0) in
     record { members = omega arith })
 
 server-below : (w : World) → newest w ≤ views → (s : ℕ) → serverFits w s ≡ true → ServerFits (server w s)
 unfolding serverFits
 server-below w h s e =
-    let a = both (leb (server w s .view .0) (newest w)) (ltb (server w s .keys) (2 ^ newest w) && ((server w s .faulty || (eqb (server w s .keys) 0 || eqb (server w s .keys) (bitOf (server w s .view .0)))) && entryFits (server w s .entry))) e in
-    let b = both (ltb (server w s .keys) (2 ^ newest w)) ((server w s .faulty || (eqb (server w s .keys) 0 || eqb (server w s .keys) (bitOf (server w s .view .0)))) && entryFits (server w s .entry)) (a .1) in
-    let c = both (server w s .faulty || (eqb (server w s .keys) 0 || eqb (server w s .keys) (bitOf (server w s .view .0)))) (entryFits (server w s .entry)) (b .1) in
+    let a = both (leb (server w s .view .0) (newest w)) (ltb (server w s .keys .0) (2 ^ newest w) && ((server w s .faulty || (eqb (server w s .keys .0) 0 || eqb (server w s .keys .0) (bitOf (server w s .view .0)))) && entryFits (server w s .entry))) e in
+    let b = both (ltb (server w s .keys .0) (2 ^ newest w)) ((server w s .faulty || (eqb (server w s .keys .0) 0 || eqb (server w s .keys .0) (bitOf (server w s .view .0)))) && entryFits (server w s .entry)) (a .1) in
+    let c = both (server w s .faulty || (eqb (server w s .keys .0) 0 || eqb (server w s .keys .0) (bitOf (server w s .view .0)))) (entryFits (server w s .entry)) (b .1) in
     record {
-      keys = lt-of-lt-of-le (ltb-true (server w s .keys) (2 ^ newest w) (b .0)) (pow-mono {i = newest w} {j = 32} h);
+      keys = lt-of-lt-of-le (ltb-true (server w s .keys .0) (2 ^ newest w) (b .0)) (pow-mono {i = newest w} {j = 32} h);
       entry = entry-fits (server w s .entry) (c .1);
     }
 

@@ -15,18 +15,20 @@ use codec::places::store_view;
 use protocol::Administrator;
 use protocol::Ending;
 use protocol::Entry;
+use protocol::KeySet;
 use protocol::Server;
 use protocol::ServerNumber;
+use protocol::ServerSet;
 use protocol::Stamp;
 use protocol::StampCount;
 use protocol::View;
 use protocol::ViewNumber;
 use protocol::limits::SERVERS;
-use values::sizes::holds;
+use values::sets::has_server;
 use values::sizes::sized;
 
-fn server_of(view: ViewNumber, keys: u32) -> Server
-    ensures { λ r. ⌜ r ≡ idleServer (view .0) keys ⌝ }
+fn server_of(view: ViewNumber, keys: KeySet) -> Server
+    ensures { λ r. ⌜ r ≡ idleServer (view .0) (keys .0) ⌝ }
 {
     Server {
         view: view,
@@ -43,19 +45,19 @@ fn server_of(view: ViewNumber, keys: u32) -> Server
 }
 
 // "Members hold view 1, key 1 and the empty entry"
-fn fresh_server(members: u32, s: ServerNumber) -> Server
+fn fresh_server(members: ServerSet, s: ServerNumber) -> Server
     requires { ⌜ (1 ≤ s .0) × (s .0 ≤ 32) ⌝ }
-    ensures { λ r. ⌜ r ≡ freshServer members (s .0) ⌝ }
+    ensures { λ r. ⌜ r ≡ freshServer (members .0) (s .0) ⌝ }
 {
-    if holds(members, s.0) {
-        return server_of(ViewNumber(1), 1);
+    if has_server(members, s) {
+        return server_of(ViewNumber(1), KeySet(1));
     }
-    server_of(ViewNumber(0), 0)
+    server_of(ViewNumber(0), KeySet(0))
 }
 
-fn store_servers(image: &mut [u8], members: u32)
+fn store_servers(image: &mut [u8], members: ServerSet)
     requires { ⌜ length (now image) ≡ imageSize ⌝ }
-    ensures { λ _. ⌜ now (image .exit) ≡ seeded (now (image .entry)) members 32 ⌝ }
+    ensures { λ _. ⌜ now (image .exit) ≡ seeded (now (image .entry)) (members .0) 32 ⌝ }
 {
     for k in 0..SERVERS {
         let s = ServerNumber(k + 1);
@@ -78,7 +80,8 @@ fn store_fresh(image: &mut [u8], v: View)
     put_bytes(image, 0, &version);
     store_administrator(image, a);
     store_view(image, ViewNumber(1), v);
-    store_servers(image, v.members);
+    let members = v.members;
+    store_servers(image, members);
 }
 
 // "Fresh world (member bits, f): 1, buffer not 21,648 bytes; 8, size rule broken."
@@ -89,7 +92,7 @@ pub fn fresh(image: &mut [u8], members: u32, f: u8) -> u8
         return 1;
     }
     let v = View {
-        members: members,
+        members: ServerSet(members),
         f: f,
     };
     if !sized(v) {

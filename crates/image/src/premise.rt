@@ -17,7 +17,7 @@ use codec::places::load_view;
 use protocol::ServerNumber;
 use protocol::ViewNumber;
 use protocol::limits::SERVERS;
-use values::sizes::holds;
+use values::sets::has_key;
 
 // A refusal, or whether no view has more faulty key holders than its threshold.
 pub enum Report {
@@ -35,7 +35,8 @@ fn bad_server(image: &[u8], t: ViewNumber, s: ServerNumber) -> u32
     if !v.faulty {
         return 0;
     }
-    let held = holds(v.keys, t.0);
+    let keys = v.keys;
+    let held = has_key(keys, t);
     held as u32
 }
 

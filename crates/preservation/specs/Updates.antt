@@ -42,13 +42,13 @@ use Rattle.preservation.specs.Links.{Untaken, Is, taken-is, is-taken, Sh
 -- a server's record beside the newest view
 abbrev pub serverOk : ℕ → Server → Bool
 serverOk n a =
-    leb (a .view .0) n && (ltb (a .keys) (2 ^ n) && ((a .faulty || (eqb (a .keys) 0 || eqb (a .keys) (bitOf (a .view .0)))) && entryFits (a .entry)))
+    leb (a .view .0) n && (ltb (a .keys .0) (2 ^ n) && ((a .faulty || (eqb (a .keys .0) 0 || eqb (a .keys .0) (bitOf (a .view .0)))) && entryFits (a .entry)))
 
 pub server-more : (m n : ℕ) (a : Server) → m ≤ n → serverOk m a ≡ true → serverOk n a ≡ true
 server-more m n a l e =
     let p : a .view .0 ≤ n = omega (arith, leb-true (a .view .0) m (and-left _ _ e)) in
     let r = and-right (leb (a .view .0) m) _ e in
-    and-both _ _ (le-leb _ _ p) (and-first (ltb (a .keys) (2 ^ m)) _ (ltb (a .keys) (2 ^ n)) (λ k. lt-ltb _ _ (keys (ltb-true _ _ k) (pow-mono l))) r)
+    and-both _ _ (le-leb _ _ p) (and-first (ltb (a .keys .0) (2 ^ m)) _ (ltb (a .keys .0) (2 ^ n)) (λ k. lt-ltb _ _ (keys (ltb-true _ _ k) (pow-mono l))) r)
   where
     keys : {x y z : ℕ} → x < y → y ≤ z → x < z
     keys h k = omega arith
@@ -443,7 +443,7 @@ ending-called w a t v = refl
 
 -- the clause of a view
 abbrev isZero : View → Bool
-isZero v = eqb (v .members) 0 && eqb (v .f) 0
+isZero v = eqb (v .members .0) 0 && eqb (v .f) 0
 
 pub is-view : (w : World) (t : ℕ) → (t ≤ lastView w → sized (view w t) ≡ true) → (lastView w < t → isZero (view w t) ≡ true) → viewFits w t ≡ true
 unfolding viewFits

@@ -6,6 +6,7 @@ pub mod Entries
 pub mod Worlds
 pub mod Change
 pub mod Sound
+pub mod Kinds
 pub mod Moves
 pub mod Turns
 pub mod Fresh

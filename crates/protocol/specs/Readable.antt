@@ -36,14 +36,14 @@ unfoldable pub lastView : World → ℕ
 lastView w = newest w + bit (isEnding (w .administrator .ending))
 
 unfoldable pub viewFits : World → ℕ → Bool
-viewFits w t = if (leb t (lastView w)) (sized (view w t)) (eqb (view w t .members) 0 && eqb (view w t .f) 0)
+viewFits w t = if (leb t (lastView w)) (sized (view w t)) (eqb (view w t .members .0) 0 && eqb (view w t .f) 0)
 
 -- "server ... and key views do not exceed newest"; "a correct server has no key but its own view's"
 unfoldable pub serverFits : World → ℕ → Bool
 serverFits w s =
     leb (server w s .view .0) (newest w)
-    && (ltb (server w s .keys) (2 ^ newest w)
-    && ((server w s .faulty || (eqb (server w s .keys) 0 || eqb (server w s .keys) (bitOf (server w s .view .0))))
+    && (ltb (server w s .keys .0) (2 ^ newest w)
+    && ((server w s .faulty || (eqb (server w s .keys .0) 0 || eqb (server w s .keys .0) (bitOf (server w s .view .0))))
     && entryFits (server w s .entry)))
 
 -- "open phases ... name a message of the right kind and sender"; "Kind 0 goes only with phase 0 and the empty entry."

@@ -48,4 +48,4 @@ clientRule c rule who n e =
 unfoldable pub administratorRule : Administrator → ℕ → ℕ → View → Result Administrator
 administratorRule a rule n v =
     if (eqb rule 7) (callRule a v n)
-    (guard (eqb rule 4) 3 (guard (eqb n 0) 3 (guard (eqb (v .members) 0) 3 (guard (eqb (v .f) 0) 3 (advanceRule a)))))
+    (guard (eqb rule 4) 3 (guard (eqb n 0) 3 (guard (eqb (v .members .0) 0) 3 (guard (eqb (v .f) 0) 3 (advanceRule a)))))

@@ -99,7 +99,8 @@ pub fn administrator_rule(a: Administrator, rule: u8, n: MessageNumber, v: View)
     if n.0 != 0 {
         return Called::CallRefused(3);
     }
-    if v.members != 0 {
+    let members = v.members;
+    if members.0 != 0 {
         return Called::CallRefused(3);
     }
     if v.f != 0 {

@@ -16,15 +16,15 @@ use Rattle.protocol.specs.Readable.{senderFits, nextFits, entryZero}
 
 -- "views obey the size rule"; "Beyond newest (newest+1 while ending) all zero."
 unfoldable pub viewRule : ℕ → ℕ → View → Bool
-viewRule last t v = if (leb t last) (sized v) (eqb (v .members) 0 && eqb (v .f) 0)
+viewRule last t v = if (leb t last) (sized v) (eqb (v .members .0) 0 && eqb (v .f) 0)
 
 -- "a correct server has no key but its own view's"
 unfoldable pub keyRule : Server → Bool
-keyRule a = a .faulty || (eqb (a .keys) 0 || eqb (a .keys) (bitOf (a .view .0)))
+keyRule a = a .faulty || (eqb (a .keys .0) 0 || eqb (a .keys .0) (bitOf (a .view .0)))
 
 -- "server ... and key views do not exceed newest"
 unfoldable pub serverRule : ℕ → Server → Bool
-serverRule newest a = leb (a .view .0) newest && (ltb (a .keys) (2 ^ newest) && (keyRule a && entryFits (a .entry)))
+serverRule newest a = leb (a .view .0) newest && (ltb (a .keys .0) (2 ^ newest) && (keyRule a && entryFits (a .entry)))
 
 -- "Kind 0 goes only with phase 0 and the empty entry."
 abbrev pub idleRule : Client → Bool

@@ -15,7 +15,7 @@ sizing (Size q) = done q
 
 pub size-le : (v : View) → size v ≤ 32
 unfolding size
-size-le v = count-le (holds (v .members)) 32
+size-le v = count-le (holds (v .members .0)) 32
 
 -- the marked sizes and refusals
 pub marked :

@@ -20,6 +20,7 @@ use codec::layout::STEP;
 use codec::records::read_step;
 use image::readable::readable;
 use protocol::ServerNumber;
+use protocol::ServerSet;
 use protocol::Step;
 use protocol::View;
 use protocol::kinds::READS;
@@ -45,7 +46,7 @@ fn perform(image: &mut [u8], st: Step) -> Stepped
         _ => new_view(
             image,
             View {
-                members: st.value,
+                members: ServerSet(st.value),
                 f: st.f,
             },
         ),

@@ -42,5 +42,5 @@ pub record Sizes (v : View) : Type 0 where
 pub sizes : (v : View) → sized v ≡ true → Sizes v
 unfolding sized readSize writeSize quorum
 sizes v e =
-    let r : 3 * v .f + 1 ≤ size v = leb-true _ _ (and-right (leb 1 (size v)) _ (and-right (ltb (v .members) 4294967296) _ e)) in
+    let r : 3 * v .f + 1 ≤ size v = leb-true _ _ (and-right (leb 1 (size v)) _ (and-right (ltb (v .members .0) 4294967296) _ e)) in
     record { meet = omega arith; twice = omega arith; readOne = omega arith; writeOne = omega arith; readMost = omega arith; writeMost = omega arith }

@@ -26,9 +26,9 @@ same-length c = search needs
 
 returns : tie.Need-returns
 returns c =
-    let a = c .before .before .before .before .before .before .before .before .before .before .before .before .before .before .before .before .before .before .before .before .before .before .args in
-    rw (c .before .before .store-servers .ensures, c .before .before .before .before .before .before .store-view .ensures, c .before .before .before .before .before .before .before .before .before .before .store-administrator .ensures, c .before .before .before .before .before .before .before .before .before .before .before .before .before .before .put-bytes .ensures, c .before .before .before .before .before .before .before .before .before .before .before .before .before .before .before .before .before .before .before .clear .ensures)
-    (fresh-stored (a .image .now) (a .v) (c .before .before .before .before .before .before .before .before .before .before .before .before .before .before .before .before .before .before .before .before .before .before .pre))
+    let a = c .before .before .before .before .before .before .before .before .before .before .before .before .before .before .before .before .before .before .before .before .before .before .before .args in
+    rw (c .before .before .store-servers .ensures, c .before .before .before .before .before .before .before .store-view .ensures, c .before .before .before .before .before .before .before .before .before .before .before .store-administrator .ensures, c .before .before .before .before .before .before .before .before .before .before .before .before .before .before .before .put-bytes .ensures, c .before .before .before .before .before .before .before .before .before .before .before .before .before .before .before .before .before .before .before .before .clear .ensures)
+    (fresh-stored (a .image .now) (a .v) (c .before .before .before .before .before .before .before .before .before .before .before .before .before .before .before .before .before .before .before .before .before .before .before .pre))
 
 pub store-fresh-spec : {M : Type 1} → statement M
 store-fresh-spec =

@@ -3,8 +3,8 @@ use native.Mathlib.Omega.{arith}
 use borrow.Author.Needs.{needs}
 use Rattle.protocol.specs.Tools.{holds}
 use Rattle.values.specs.Bits.{holds-at, holds-beyond}
-use Rattle.values.proofs.sizes.holds.Statement.{statement}
-use Rattle.values.proofs.sizes.holds.Tie as tie
+use Rattle.values.proofs.sets.holds.Statement.{statement}
+use Rattle.values.proofs.sets.holds.Tie as tie
 
 returns : tie.Need-returns
 unfolding holds

@@ -6,8 +6,8 @@ use borrow.Author.Needs.{needs}
 use borrow.Author.Tests.{le-leb, lt-leb}
 use Rattle.protocol.specs.Tools.{bitOf}
 use Rattle.values.specs.Bits.{bitIn, bit-at}
-use Rattle.values.proofs.sizes.bit_of.Statement.{statement}
-use Rattle.values.proofs.sizes.bit_of.Tie as tie
+use Rattle.values.proofs.sets.bit_of.Statement.{statement}
+use Rattle.values.proofs.sets.bit_of.Tie as tie
 
 returns : tie.Need-returns
 unfolding bitIn bitOf
