@@ -9,3 +9,4 @@ pub mod Sound
 pub mod Moves
 pub mod Turns
 pub mod Fresh
+pub mod Refusals
