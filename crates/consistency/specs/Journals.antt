@@ -1,21 +1,22 @@
 -- A replay is a run of the steps that it did (`stepsDone`), so that what holds of runs holds of journals: `replay-runs`, for every
--- readable image and every journal; `replay-readable`, it leaves the image readable. Used by Theorem.antt. Assumes nothing.
-use Prim.Native.Nat.{ℕ, _+_, _%_}
+-- readable image and every journal. `replay-readable` and `resume-readable`: they leave the image readable. Used by Theorem.antt.
+-- Assumes nothing.
+use Prim.Native.Nat.{ℕ, _+_, _*_, _/_, _%_}
 use native.Mathlib.Numerals.{add-one}
 use mathlib.Core.Bool.{Bool, true, false}
 use mathlib.Core.Path.{_≡_, refl, sym, ap, _∙_}
 use mathlib.Core.List.{List, [], _∷_}
-use lib.ListN.{length, take}
-use lib.Dec.{eqb}
+use lib.ListN.{length, take, drop}
+use lib.Dec.{leb, eqb}
 use borrow.Author.Tests.{eqb-true, eq-eqb}
-use Rattle.protocol.specs.Tools.{Result, refused, done}
+use Rattle.protocol.specs.Tools.{if, Result, refused, done}
 use Rattle.protocol.specs.Steps.{After}
 use Rattle.protocol.specs.Runs.{stepWidth, stepBytes, Replayed, onward, replay}
 use Rattle.protocol.specs.Runs as W
 use Rattle.codec.specs.Layout.{imageSize}
 use Rattle.codec.specs.Images.{encode, decode}
 use Rattle.image.specs.Readable.{readable, read}
-use Rattle.image.specs.Steps.{stepsOf, replayOn}
+use Rattle.image.specs.Steps.{stepsOf, unplayed, replayOn, resumeOn}
 use Rattle.image.specs.Worlds.{spells-readable, exactly-one}
 use Rattle.journal.specs.Replays.{whole-replay}
 use Rattle.consistency.specs.Runs.{run, runFrom}
@@ -65,3 +66,11 @@ replay-runs i j h = go (eqb (length j % stepWidth) 0) refl
 pub replay-readable : (i j : List ℕ) → readable i ≡ true → readable (replayOn i j .image) ≡ true
 replay-readable i j h =
     ap readable (replay-runs i j h) ∙ spells-readable (runFrom-same i (decode i) (stepsDone i j) (exactly-one i h .0) .image)
+
+pub resume-readable : (i j : List ℕ) (n : ℕ) → readable i ≡ true → readable (resumeOn i j n .image) ≡ true
+unfolding resumeOn
+resume-readable i j n h = go (leb n (length j / stepWidth))
+  where
+    go : (b : Bool) → readable (if b (replayOn i (drop (n * stepWidth) j)) (unplayed i 1) .image) ≡ true
+    go true = replay-readable i (drop (n * stepWidth) j) h
+    go false = h

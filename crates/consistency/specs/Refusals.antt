@@ -19,8 +19,10 @@ use Rattle.protocol.specs.declared.Message.{Message}
 use Rattle.protocol.specs.Tools.{if, Result, refused, done, numberOf}
 use Rattle.protocol.specs.Worlds.{World}
 use Rattle.protocol.specs.Runs.{stepWidth, replay}
-use Rattle.protocol.specs.Laws.Refusals.{refuses-done, refuses-by, refuses-guard, refuses-if, refuses-more, among-ranged, step-refuses, fresh-refuses, serve-refuses, may-answer-refuses, begin-refuses, close-refuses, call-refuses, replay-refuses, replay-all}
-pub use Rattle.protocol.specs.Laws.Refusals.{among, Refuses, refusals, zero-done, quorum-refuses}
+pub use Rattle.protocol.specs.Laws.Refusals.{among, Refuses, refusals, lastRefusal, zero-done, quorum-refuses}
+use Rattle.protocol.specs.Laws.Refusals.{refuses-done, refuses-by, refuses-guard, refuses-if, refuses-more, among-ranged}
+use Rattle.protocol.specs.Laws.Refusals.{step-refuses, fresh-refuses, serve-refuses, may-answer-refuses, begin-refuses, close-refuses}
+use Rattle.protocol.specs.Laws.Refusals.{call-refuses, replay-refuses, replay-all}
 use Rattle.codec.specs.Layout.{imageSize}
 use Rattle.codec.specs.Images.{decode}
 use Rattle.image.specs.Readable.{readable}
@@ -38,8 +40,8 @@ pub step-numbers : (i b : List ℕ) → Refuses refusals (stepOn i b)
 unfolding stepOn
 step-numbers i b = refuses-guard _ _ _ _ refl (refuses-guard _ _ _ _ refl (step-refuses _ _))
 
-pub step-range : (i b : List ℕ) (n : ℕ) → stepOn i b ≡ refused n → (1 ≤ n) × (n ≤ 11)
-step-range i b n e = among-ranged 1 11 refusals n refl (step-numbers i b .numbers n e)
+pub step-range : (i b : List ℕ) (n : ℕ) → stepOn i b ≡ refused n → (1 ≤ n) × (n ≤ lastRefusal)
+step-range i b n e = among-ranged 1 lastRefusal refusals n refl (step-numbers i b .numbers n e)
 
 -- ---- "Fresh world: 1 ...; 8", "Premise report: 1, 2."
 

@@ -1,6 +1,6 @@
--- By which numbers each rule and each step refuses. `Refuses ns x`: the answer x is done, or refused by one of the numbers ns;
--- `step-refuses`: a step by one of `refusals`. Other laws: `refuses-guard`, `refuses-if` and `refuses-then` lead through a
--- definition, `refuses-more` to a longer list, `refuses-range` to a least and a largest number, and `zero-done` says that 0 means
+-- By which numbers each rule and each step refuses. `Refuses ns x`: every refusal of x is one of the numbers ns; `step-refuses`: those
+-- of a step are among `refusals`, 1 to `lastRefusal`. Other laws: `refuses-guard`, `refuses-if` and `refuses-then` lead through a
+-- definition, `refuses-more` to a longer list; `among-ranged` gives the least and the largest number, and `zero-done` that 0 means
 -- done. Used by consistency/specs/Refusals.antt. Assumes nothing.
 use Prim.Native.Nat.{ℕ, _≤_}
 use native.Mathlib.Omega.{arith}
@@ -32,7 +32,10 @@ among n (m ∷ ns) = eqb n m || among n ns
 pub record Refuses {A : Type 0} (ns : List ℕ) (x : Result A) : Type 0 where
   pub numbers : (n : ℕ) → x ≡ refused n → among n ns ≡ true
 
--- all refusals of steps: 0 is none of them
+-- the refusals of steps: 0 is none of them
+abbrev pub lastRefusal : ℕ
+lastRefusal = 11
+
 abbrev pub refusals : List ℕ
 refusals = 1 ∷ 2 ∷ 3 ∷ 4 ∷ 5 ∷ 6 ∷ 7 ∷ 8 ∷ 9 ∷ 10 ∷ 11 ∷ []
 
@@ -65,19 +68,19 @@ refuses-then ns (refused n) f h k = refuses-by ns n (h .numbers n refl)
 refuses-then ns (done a) f h k = k a
 
 -- every number of ms is one of ns
-abbrev pub part : List ℕ → List ℕ → Bool
-part [] ns = true
-part (m ∷ ms) ns = among m ns && part ms ns
+abbrev pub amongAll : List ℕ → List ℕ → Bool
+amongAll [] ns = true
+amongAll (m ∷ ms) ns = among m ns && amongAll ms ns
 
-among-more : (ms ns : List ℕ) (n : ℕ) → part ms ns ≡ true → among n ms ≡ true → among n ns ≡ true
+among-more : (ms ns : List ℕ) (n : ℕ) → amongAll ms ns ≡ true → among n ms ≡ true → among n ns ≡ true
 among-more [] ns n p e = absurd (true≢false (sym e))
-among-more (m ∷ ms) ns n p e = go (or-cases (eqb n m) (among n ms) e) (among-more ms ns n (and-right (among m ns) (part ms ns) p))
+among-more (m ∷ ms) ns n p e = go (or-cases (eqb n m) (among n ms) e) (among-more ms ns n (and-right (among m ns) (amongAll ms ns) p))
   where
     go : (eqb n m ≡ true) ⊎ (among n ms ≡ true) → (among n ms ≡ true → among n ns ≡ true) → among n ns ≡ true
-    go (inl q) ih = rw (eqb-true n m q) (and-left (among m ns) (part ms ns) p)
+    go (inl q) ih = rw (eqb-true n m q) (and-left (among m ns) (amongAll ms ns) p)
     go (inr q) ih = ih q
 
-pub refuses-more : {A : Type 0} (ms ns : List ℕ) (x : Result A) → part ms ns ≡ true → Refuses ms x → Refuses ns x
+pub refuses-more : {A : Type 0} (ms ns : List ℕ) (x : Result A) → amongAll ms ns ≡ true → Refuses ms x → Refuses ns x
 refuses-more ms ns x p h = record { numbers = λ n e. among-more ms ns n p (h .numbers n e) }
 
 -- ---- what the numbers say
@@ -257,5 +260,5 @@ replay-all w (b ∷ bs) e = go (stepBytes w b) (bytes-refuse w b) (λ v. replay-
 
     go : (x : Result After) → Refuses refusals x → ((v : World) → replay v bs .refusal ≡ 0 → replay v bs .steps ≡ length bs)
         → onward x stop (λ v. replay v bs) .refusal ≡ 0 → onward x stop (λ v. replay v bs) .steps ≡ length (b ∷ bs)
-    go (refused n) h ih e = absurd (let (l, u) = among-ranged 1 11 refusals n refl (h .numbers n refl) in omega arith)
+    go (refused n) h ih e = absurd (let (l, u) = among-ranged 1 lastRefusal refusals n refl (h .numbers n refl) in omega arith)
     go (done a) h ih e = let k = ih (a .world) e in omega arith
