@@ -71,8 +71,9 @@ pub fn replay(image: &mut [u8], journal: &[u8]) -> Replayed {
     }
 }
 
-/// A server's rule on its record. True if it answers, with the view and entry
-/// of its record.
+/// A server's rule on its record. True if a message that reached it (rule 3) is
+/// answered, with the view and entry of its record. A false answer (rule 6) that
+/// is not refused is false: the record stays, and shows nothing of it.
 pub fn server(server: &mut [u8], call: &[u8]) -> Result<bool, Refusal> {
     result(raw::server(server, call)).map(|answers| answers == 1)
 }

@@ -13,7 +13,7 @@ use Rattle.bounds.specs.Theorem.{replay-bounded}
 use Rattle.codec.specs.Layout.{imageSize}
 use Rattle.codec.specs.Images.{decode}
 use Rattle.image.specs.Readable.{readable, read}
-use Rattle.journal.specs.Replays.{Played, played, unplayed, stepsOf, replayOn}
+use Rattle.image.specs.Steps.{Played, played, unplayed, stepsOf, replayOn}
 
 -- refusal + 256 * result: "Beside a refusal every other result is 0"
 abbrev pub packed : Result ℕ → ℕ

@@ -3,8 +3,7 @@ ghost use mathlib.Core.Path.{_≡_};
 ghost use Rattle.protocol.specs.Sizes.{quorumSize};
 ghost use Rattle.image.specs.Fresh.{freshOn};
 ghost use Rattle.image.specs.Premise.{premiseOn};
-ghost use Rattle.consistency.specs.Steps.{stepOn, leftBy, answered};
-ghost use Rattle.journal.specs.Replays.{replayOn};
+ghost use Rattle.image.specs.Steps.{stepOn, leftBy, answered, replayOn};
 ghost use Rattle.exports.specs.Answers.{packed, flagged, packedReplay};
 ghost use Rattle.single.specs.Calls.{serverCall, replied, serverLeft, clientCall, completed, clientLeft, administratorCall, accepted, administratorLeft};
 use image::fresh::fresh;
@@ -79,7 +78,7 @@ pub extern "C" fn zw_replay(image: &mut [u8], journal: &[u8]) -> u64
     done.refusal as u64 + 256 * (done.steps as u64)
 }
 
-// A server's rule on its record: refusal, 1 if it answers.
+// A server's rule on its record: refusal, 1 if it answers what reached it; 0 for a false answer.
 #[no_mangle]
 pub extern "C" fn zw_server(server: &mut [u8], call: &[u8]) -> u64
     ensures { λ r. ⌜ (r ≡ packed (replied (serverCall (now (server .entry)) (now (call .entry))))) × (now (server .exit) ≡ serverLeft (now (server .entry)) (serverCall (now (server .entry)) (now (call .entry)))) ⌝ }

@@ -9,4 +9,5 @@ pub mod Loops
 pub mod Walks
 pub mod Fresh
 pub mod Premise
-pub mod Begun
+pub mod Steps
+pub mod Worlds

@@ -10,3 +10,4 @@ pub mod Kinds
 pub mod Moves
 pub mod Turns
 pub mod Fresh
+pub mod Refusals

@@ -15,7 +15,7 @@ use Rattle.protocol.specs.Runs.{stepWidth, stepOf}
 use Rattle.codec.specs.Layout.{imageSize}
 use Rattle.codec.specs.Images.{decode}
 use Rattle.image.specs.Readable.{readable, read}
-use Rattle.consistency.specs.Steps.{stepOn}
+use Rattle.image.specs.Steps.{stepOn}
 use Rattle.world.specs.declared.Stepped.the-variants.{StepRefused}
 use Rattle.world.specs.Images.{Legible, Does}
 use Rattle.world.specs.Stored.{refuses}

@@ -5,7 +5,7 @@ ghost use lib.ListN.{length};
 ghost use Rattle.protocol.specs.Steps.{fieldsFit, perform as performOn, step as stepOf};
 ghost use Rattle.protocol.specs.Runs.{stepWidth, stepOf as stepIn};
 ghost use Rattle.codec.specs.Images.{decode};
-ghost use Rattle.consistency.specs.Steps.{stepOn};
+ghost use Rattle.image.specs.Steps.{stepOn};
 ghost use Rattle.world.specs.Images.{Legible, Does};
 use super::Stepped;
 use super::clients::begins;
