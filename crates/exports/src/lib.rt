@@ -6,6 +6,9 @@ ghost use Rattle.image.specs.Premise.{premiseOn};
 ghost use Rattle.image.specs.Steps.{stepOn, leftBy, answered, replayOn};
 ghost use Rattle.exports.specs.Answers.{packed, flagged, packedReplay};
 ghost use Rattle.single.specs.Calls.{serverCall, replied, serverLeft, clientCall, completed, clientLeft, administratorCall, accepted, administratorLeft};
+use codec::records::write_administrator;
+use codec::records::write_client;
+use codec::records::write_server;
 use image::fresh::fresh;
 use image::premise::Report;
 use image::premise::premise;
@@ -16,9 +19,6 @@ use protocol::Served;
 use single::calls::administrator_call;
 use single::calls::client_call;
 use single::calls::server_call;
-use single::records::write_administrator;
-use single::records::write_client;
-use single::records::write_server;
 use values::sizes::QuorumSize;
 use values::sizes::quorum_size;
 use world::Stepped;
@@ -87,11 +87,11 @@ pub extern "C" fn zw_server(server: &mut [u8], call: &[u8]) -> u64
     match reply {
         Served::ServeRefused(x) => x as u64,
         Served::Kept(a) => {
-            write_server(server, a);
+            write_server(server, 0, a);
             0
         }
         Served::Answered(a, _) => {
-            write_server(server, a);
+            write_server(server, 0, a);
             256
         }
     }
@@ -106,11 +106,11 @@ pub extern "C" fn zw_client(client: &mut [u8], call: &[u8]) -> u64
     match step {
         Closing::CloseRefused(x) => x as u64,
         Closing::WritesNext(c) => {
-            write_client(client, c);
+            write_client(client, 0, c);
             0
         }
         Closing::Completed(c) => {
-            write_client(client, c);
+            write_client(client, 0, c);
             256
         }
     }
@@ -125,7 +125,7 @@ pub extern "C" fn zw_administrator(administrator: &mut [u8], call: &[u8]) -> u64
     match step {
         Called::CallRefused(x) => x as u64,
         Called::Calling(a) => {
-            write_administrator(administrator, a);
+            write_administrator(administrator, 0, a);
             0
         }
     }

@@ -1,7 +1,7 @@
 -- The fresh world's image. Assumes nothing.
 use mathlib.Core.Path.{_≡_, refl, sym, ap, _∙_}
 use mathlib.Core.Bool.{false}
-use mathlib.Core.List.{List, [], _∷_, _++_}
+use mathlib.Core.List.{List, _++_}
 use Prim.Native.Nat.{ℕ, zero, suc, _+_, _*_, _-_, _≤_}
 use native.Mathlib.Nat.{not-suc-le-zero}
 use native.Mathlib.Numerals.{add-one}
@@ -18,9 +18,10 @@ use Rattle.protocol.specs.Tools.{nth, replace, Result, refused, done, guard}
 use Rattle.protocol.specs.Sizes.{clients, servers, views, messages}
 use Rattle.protocol.specs.Entries.{empty}
 use Rattle.protocol.specs.Worlds.{World, withView, withServer, noView, noServer, noClient, noMessage, freshServer, listTo, freshWorld, fresh}
-use Rattle.codec.specs.Layout.{imageSize, headerWidth, viewWidth, serverWidth, clientWidth, messageWidth}
+use Rattle.codec.specs.Layout.{version, versionPlace, imageSize, headerWidth, viewWidth, serverWidth, clientWidth, messageWidth}
+use Rattle.codec.specs.Bytes.{le16}
 use Rattle.codec.specs.Lists.{put, flat, flat-zeros, listTo-nth, length-replace}
-use Rattle.codec.specs.Records.{headerBytes, administratorBytes, viewBytes, serverBytes, serverHead, clientBytes, clientHead, messageBytes, messageHead, entryBytes}
+use Rattle.codec.specs.Records.{headerBytes, administratorBytes, viewBytes, serverBytes, clientBytes, messageBytes, entryBytes}
 use Rattle.codec.specs.Places.{putView, putServer, putAdministrator}
 use Rattle.codec.specs.Images.{encode}
 use Rattle.codec.specs.Laws.{Full, put-view, put-server, full-view, full-server}
@@ -138,7 +139,7 @@ blank-full =
     }
 
 -- version and newest view in n more zeros
-headed-zeros : (n : ℕ) → putAdministrator (put (replicate (headerWidth + n) 0) 0 (1 ∷ 0 ∷ [])) firstView ≡ headerBytes 0 firstView ++ replicate n 0
+headed-zeros : (n : ℕ) → putAdministrator (put (replicate (headerWidth + n) 0) versionPlace (le16 version)) firstView ≡ headerBytes 0 firstView ++ replicate n 0
 unfolding putAdministrator put headerBytes administratorBytes
 headed-zeros n = rw (← replicate-append-replicate {A = ℕ} headerWidth n 0)
 
@@ -159,13 +160,13 @@ zeros4 a b c d =
 zero-groups : (n m k j : ℕ)
     → flat viewBytes (replicate n noView) ++ (flat serverBytes (replicate m noServer) ++ (flat clientBytes (replicate k noClient) ++ flat messageBytes (replicate j noMessage)))
     ≡ replicate (n * viewWidth + (m * serverWidth + (k * clientWidth + j * messageWidth))) 0
-unfolding viewBytes serverBytes serverHead clientBytes clientHead messageBytes messageHead entryBytes
+unfolding viewBytes serverBytes clientBytes messageBytes entryBytes
 zero-groups n m k j =
     join4 (flat-zeros viewBytes viewWidth noView refl n) (flat-zeros serverBytes serverWidth noServer refl m) (flat-zeros clientBytes clientWidth noClient refl k)
     (flat-zeros messageBytes messageWidth noMessage refl j)
     ∙ zeros4 (n * viewWidth) (m * serverWidth) (k * clientWidth) (j * messageWidth)
 
-blank-image : putAdministrator (put (replicate imageSize 0) 0 (1 ∷ 0 ∷ [])) firstView ≡ encode blank
+blank-image : putAdministrator (put (replicate imageSize 0) versionPlace (le16 version)) firstView ≡ encode blank
 unfolding encode blank
 blank-image =
     headed-zeros (imageSize - headerWidth) ∙ ap (λ (l : List ℕ). headerBytes 0 firstView ++ l) (sym (zero-groups views servers clients (suc messages)))
@@ -178,7 +179,7 @@ seeded-fresh v =
 
 -- "Members hold view 1, key 1 and the empty entry; all else is zero but version and newest view 1."
 fresh-image : (v : View)
-    → seeded (putView (putAdministrator (put (replicate imageSize 0) 0 (1 ∷ 0 ∷ [])) firstView) 1 v) (v .members .0) servers ≡ encode (freshWorld v)
+    → seeded (putView (putAdministrator (put (replicate imageSize 0) versionPlace (le16 version)) firstView) 1 v) (v .members .0) servers ≡ encode (freshWorld v)
 fresh-image v =
     ap (λ (i : List ℕ). seeded (putView i 1 v) (v .members .0) servers) blank-image
     ∙ ap (λ (i : List ℕ). seeded i (v .members .0) servers) (put-view blank blank-full 1 (omega arith) (omega arith) v)
@@ -186,9 +187,9 @@ fresh-image v =
     ∙ ap encode (seeded-fresh v)
 
 pub fresh-stored : (i : List ℕ) (v : View) → length i ≡ imageSize
-    → seeded (putView (putAdministrator (put (replicate (length i) 0) 0 (1 ∷ 0 ∷ [])) firstView) 1 v) (v .members .0) servers ≡ encode (freshWorld v)
+    → seeded (putView (putAdministrator (put (replicate (length i) 0) versionPlace (le16 version)) firstView) 1 v) (v .members .0) servers ≡ encode (freshWorld v)
 fresh-stored i v e =
-    ap (λ (n : ℕ). seeded (putView (putAdministrator (put (zeros n) 0 (1 ∷ 0 ∷ [])) firstView) 1 v) (v .members .0) servers) e ∙ fresh-image v
+    ap (λ (n : ℕ). seeded (putView (putAdministrator (put (zeros n) versionPlace (le16 version)) firstView) 1 v) (v .members .0) servers) e ∙ fresh-image v
 
 pub seeded-start : (l : List ℕ) (bits : ℕ) → seeded l bits 0 ≡ l
 unfolding seeded

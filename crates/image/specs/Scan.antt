@@ -24,7 +24,8 @@ use Rattle.codec.specs.Bytes.{Bytes}
 use Rattle.codec.specs.Places.{usedAt, administratorAt, viewAt, serverAt, clientAt, messageAt}
 use Rattle.codec.specs.Images.{decode}
 use Rattle.codec.specs.Laws.{decode-full, used-decode, view-decode, server-decode, client-decode, message-decode}
-use Rattle.codec.specs.Spelling.{both, join, headerPlain}
+use Rattle.codec.specs.Records.{headerPlain}
+use Rattle.codec.specs.Spelling.{both, join}
 use Rattle.codec.specs.Whole.{Plain, viewPlainAt, serverPlainAt, clientPlainAt, messagePlainAt, all-at, all-of, encode-decode, plain-image}
 use Rattle.values.specs.Records.{viewRule, keyRule, serverRule, messageRule}
 use Rattle.image.specs.Tests.{as-one}

@@ -7,8 +7,10 @@ ghost use Rattle.codec.specs.Layout.{imageSize};
 ghost use Rattle.codec.specs.Images.{encode};
 ghost use Rattle.image.specs.Fresh.{idleServer, seeded, freshOn};
 use codec::bytes::clear;
-use codec::bytes::put_bytes;
+use codec::bytes::put16;
 use codec::layout::IMAGE;
+use codec::layout::VERSION;
+use codec::layout::VERSION_AT;
 use codec::places::store_administrator;
 use codec::places::store_server;
 use codec::places::store_view;
@@ -71,13 +73,12 @@ fn store_fresh(image: &mut [u8], v: View)
     requires { ⌜ length (now image) ≡ imageSize ⌝ }
     ensures { λ _. ⌜ now (image .exit) ≡ encode (freshWorld v) ⌝ }
 {
-    let version = [1u8, 0u8];
     let a = Administrator {
         newest: ViewNumber(1),
         ending: Ending::Settled,
     };
     clear(image);
-    put_bytes(image, 0, &version);
+    put16(image, VERSION_AT, VERSION);
     store_administrator(image, a);
     store_view(image, ViewNumber(1), v);
     let members = v.members;

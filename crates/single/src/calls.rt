@@ -3,34 +3,48 @@ ghost use mathlib.Core.Path.{_≡_};
 ghost use Rattle.protocol.specs.Servers.{served};
 ghost use Rattle.protocol.specs.Clients.{closing, called};
 ghost use Rattle.single.specs.Calls.{serverCall, clientCall, administratorCall};
-use super::records::administrator_plain;
 use super::rules::administrator_rule;
 use super::rules::client_rule;
 use super::rules::server_rule;
-use codec::bytes::half2;
+use codec::bytes::get16;
 use codec::layout::ADMINISTRATOR;
 use codec::layout::CLIENT;
 use codec::layout::ENTRY;
 use codec::layout::MESSAGE;
 use codec::layout::SERVER;
 use codec::layout::VIEW;
+use codec::records::administrator_plain;
+use codec::records::client_plain;
+use codec::records::entry_plain;
+use codec::records::message_plain;
 use codec::records::read_administrator;
 use codec::records::read_client;
 use codec::records::read_entry;
 use codec::records::read_message;
 use codec::records::read_server;
 use codec::records::read_view;
-use image::plain::client_plain;
-use image::plain::entry_plain;
-use image::plain::message_plain;
-use image::plain::server_plain;
-use image::plain::view_plain;
+use codec::records::server_plain;
+use codec::records::view_plain;
 use protocol::Called;
 use protocol::Closing;
 use protocol::MessageNumber;
 use protocol::Served;
 
-// What is asked begins with four bytes of its own.
+// What is asked begins with four bytes of its own: the rule, three more by the machine.
+const RULE_AT: usize = 0;
+
+const FLAG_AT: usize = 1;
+
+const VIEW_AT: usize = 2;
+
+const SERVER_SPARE_AT: usize = 3;
+
+const CLIENT_AT: usize = 1;
+
+const NUMBER_AT: usize = 2;
+
+const ADMINISTRATOR_SPARE_AT: usize = 1;
+
 const ASKED: usize = 4;
 
 // "rule u8, flag u8, view u8, 1 zero, message"
@@ -46,7 +60,7 @@ pub fn server_call(server: &[u8], call: &[u8]) -> Served
     if !server_plain(server) {
         return Served::ServeRefused(3);
     }
-    if call[3] != 0 {
+    if call[SERVER_SPARE_AT] != 0 {
         return Served::ServeRefused(3);
     }
     if !message_plain(&call[ASKED..ASKED + MESSAGE]) {
@@ -54,7 +68,7 @@ pub fn server_call(server: &[u8], call: &[u8]) -> Served
     }
     let a = read_server(server);
     let m = read_message(&call[ASKED..ASKED + MESSAGE]);
-    server_rule(a, m, call[0], call[1], call[2])
+    server_rule(a, m, call[RULE_AT], call[FLAG_AT], call[VIEW_AT])
 }
 
 // "rule u8, client u8, number u16, entry"
@@ -70,13 +84,13 @@ pub fn client_call(client: &[u8], call: &[u8]) -> Closing
     if !client_plain(client) {
         return Closing::CloseRefused(3);
     }
-    if !entry_plain(call, ASKED) {
+    if !entry_plain(&call[ASKED..ASKED + ENTRY]) {
         return Closing::CloseRefused(3);
     }
     let c = read_client(client);
     let e = read_entry(&call[ASKED..ASKED + ENTRY]);
-    let n = half2(call[2], call[3]);
-    client_rule(c, call[0], call[1], MessageNumber(n), e)
+    let n = get16(call, NUMBER_AT);
+    client_rule(c, call[RULE_AT], call[CLIENT_AT], MessageNumber(n), e)
 }
 
 // "rule u8, 1 zero, number u16, view"
@@ -92,7 +106,7 @@ pub fn administrator_call(administrator: &[u8], call: &[u8]) -> Called
     if !administrator_plain(administrator) {
         return Called::CallRefused(3);
     }
-    if call[1] != 0 {
+    if call[ADMINISTRATOR_SPARE_AT] != 0 {
         return Called::CallRefused(3);
     }
     if !view_plain(&call[ASKED..ASKED + VIEW]) {
@@ -100,6 +114,6 @@ pub fn administrator_call(administrator: &[u8], call: &[u8]) -> Called
     }
     let a = read_administrator(administrator);
     let v = read_view(&call[ASKED..ASKED + VIEW]);
-    let n = half2(call[2], call[3]);
-    administrator_rule(a, call[0], MessageNumber(n), v)
+    let n = get16(call, NUMBER_AT);
+    administrator_rule(a, call[RULE_AT], MessageNumber(n), v)
 }

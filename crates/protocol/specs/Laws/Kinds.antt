@@ -92,5 +92,5 @@ by-kind w st f P p1 p2 p3 p4 p5 p6 p7 =
           eqb-false (st .kind) deliverStep n3,
           eqb-false (st .kind) takeStep n4,
           eqb-false (st .kind) faultStep n5,
-          eqb-false (st .kind) falseStep n6
+          eqb-false (st .kind) falseStep n6,
         )

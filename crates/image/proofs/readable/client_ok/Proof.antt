@@ -3,7 +3,7 @@ use borrow.Author.Tests.{not-true, not-false}
 use borrow.Author.Needs.{needs}
 use Rattle.values.specs.Records.{pass}
 use Rattle.image.specs.Scan.{clientOk}
-use Rattle.codec.specs.Spelling.{clientPlain}
+use Rattle.codec.specs.Records.{clientPlain}
 use Rattle.codec.specs.Lists.{span}
 use Rattle.codec.specs.Layout.{clientPlace, clientWidth}
 use Rattle.image.proofs.readable.client_ok.Statement.{statement}

@@ -5,7 +5,7 @@ use borrow.Author.Needs.{needs}
 use Rattle.values.specs.Records.{pass}
 use Rattle.codec.specs.Laws.{message-decode}
 use Rattle.image.specs.Scan.{firstOk}
-use Rattle.codec.specs.Spelling.{messagePlain}
+use Rattle.codec.specs.Records.{messagePlain}
 use Rattle.codec.specs.Lists.{span}
 use Rattle.codec.specs.Layout.{messageWidth, messagesAt}
 use Rattle.image.proofs.readable.first_ok.Statement.{statement}

@@ -3,7 +3,7 @@ use borrow.Author.Tests.{not-true, not-false}
 use borrow.Author.Needs.{needs}
 use Rattle.values.specs.Records.{pass}
 use Rattle.image.specs.Scan.{headerOk}
-use Rattle.codec.specs.Spelling.{headerPlain}
+use Rattle.codec.specs.Records.{headerPlain}
 use Rattle.codec.specs.Lists.{span}
 use Rattle.codec.specs.Layout.{headerWidth}
 use Rattle.image.proofs.readable.header_ok.Statement.{statement}

@@ -3,7 +3,7 @@ use borrow.Author.Tests.{not-true, not-false}
 use borrow.Author.Needs.{needs}
 use Rattle.values.specs.Records.{pass}
 use Rattle.image.specs.Scan.{messageOk}
-use Rattle.codec.specs.Spelling.{messagePlain}
+use Rattle.codec.specs.Records.{messagePlain}
 use Rattle.codec.specs.Lists.{span}
 use Rattle.codec.specs.Layout.{messagePlace, messageWidth}
 use Rattle.image.proofs.readable.message_ok.Statement.{statement}

@@ -4,7 +4,7 @@ use borrow.Author.Tests.{not-true, not-false}
 use borrow.Author.Needs.{needs}
 use Rattle.values.specs.Records.{pass}
 use Rattle.image.specs.Scan.{server-rule, serverOk, open-high}
-use Rattle.codec.specs.Spelling.{serverPlain}
+use Rattle.codec.specs.Records.{serverPlain}
 use Rattle.codec.specs.Lists.{span}
 use Rattle.codec.specs.Layout.{serverPlace, serverWidth}
 use Rattle.image.proofs.readable.server_ok.Statement.{statement}

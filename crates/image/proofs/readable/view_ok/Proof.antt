@@ -3,7 +3,7 @@ use borrow.Author.Tests.{not-true, not-false}
 use borrow.Author.Needs.{needs}
 use Rattle.values.specs.Records.{pass}
 use Rattle.image.specs.Scan.{view-rule, viewOk}
-use Rattle.codec.specs.Spelling.{viewPlain}
+use Rattle.codec.specs.Records.{viewPlain}
 use Rattle.codec.specs.Lists.{span}
 use Rattle.codec.specs.Layout.{viewPlace, viewWidth}
 use Rattle.image.proofs.readable.view_ok.Statement.{statement}
