@@ -86,7 +86,7 @@ short : (l : List ℕ) (a n i : ℕ) → (i < n → ⊥) → length (part l a n)
 unfolding part
 short l a n i h = simp length-take (omega arith)
 
-bytes-part : (l : List ℕ) (a n : ℕ) → Bytes l → Bytes (part l a n)
+pub bytes-part : (l : List ℕ) (a n : ℕ) → Bytes l → Bytes (part l a n)
 bytes-part l a n y i =
     elim (decLt i n) [ yes h ↦ rw (getD-part l a n i h) (y (a + i)) | no h ↦ rw (List·getD-eq-default (part l a n) 0 (short l a n i h)) (omega arith) ]
 
