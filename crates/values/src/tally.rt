@@ -9,7 +9,7 @@ use protocol::Taken;
 use protocol::ViewNumber;
 ghost use mathlib.Core.Path.{_≡_};
 ghost use Rattle.protocol.specs.Clients.{taken};
-ghost use Rattle.values.specs.Tallies.{seenWith, replaces, closesAt};
+ghost use Rattle.values.specs.Tallies.{firstAnswer, addAnswer, seenWith, replaces, closesAt};
 
 // The servers heard, and the largest entry that they showed.
 pub struct Tally {
@@ -40,6 +40,38 @@ pub fn replaces(had: Entry, t: ViewNumber, m: Message) -> bool
     let shown = m.entry;
     let smaller = entries::below(shown, had);
     !smaller
+}
+
+// The tally of one answer, the one just taken.
+pub fn first_answer(m: Message) -> Tally
+    ensures { λ r. ⌜ r ≡ firstAnswer m ⌝ }
+{
+    let best = m.entry;
+    let seen = sets::server_alone(ServerNumber(m.sender));
+    Tally {
+        seen: seen,
+        best: best,
+    }
+}
+
+// One older answer more to a tally of view t, for a host that keeps the answers in a list of its own.
+pub fn add_answer(a: Tally, t: ViewNumber, m: Message) -> Tally
+    ensures { λ r. ⌜ r ≡ addAnswer a (t .0) m ⌝ }
+{
+    let had = a.best;
+    let heard = a.seen;
+    let shown = m.entry;
+    let seen = seen_with(heard, t, m);
+    if replaces(had, t, m) {
+        return Tally {
+            seen: seen,
+            best: shown,
+        };
+    }
+    Tally {
+        seen: seen,
+        best: had,
+    }
 }
 
 // The answer either closes its phase, with the largest entry, or leaves it open.
