@@ -5,6 +5,7 @@ pub mod Formed
 pub mod Chains
 pub mod Readable
 pub mod Scan
+pub mod Beyond
 pub mod Loops
 pub mod Walks
 pub mod Fresh

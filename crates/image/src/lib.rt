@@ -1,4 +1,5 @@
 // The image of a world: whether it is readable, the fresh world, and the premise.
+pub mod beyond;
 pub mod chain;
 pub mod fresh;
 pub mod premise;
