@@ -19,13 +19,13 @@ use Rattle.protocol.specs.Entries.{countOf, writerOf, same}
 use Rattle.protocol.specs.Readable.{zeroMessage}
 use Rattle.codec.specs.Layout.{imageSize, messageWidth, messagePlace}
 use Rattle.codec.specs.Lists.{part, length-part}
-use Rattle.codec.specs.Bytes.{Bytes}
-use Rattle.codec.specs.Records.{entryOf, entryBytes, messageOf, messageHead, messageBytes}
+use Rattle.codec.specs.Bytes.{Bytes, bytes-part, zeros as zerosFrom}
+use Rattle.codec.specs.Records.{entryOf, entryBytes, messageOf, messageBytes, messagePlain, entryPlain}
 use Rattle.codec.specs.Places.{usedAt, messageAt}
 use Rattle.codec.specs.Images.{decode}
 use Rattle.codec.specs.Laws.{message-decode}
-use Rattle.codec.specs.Spelling.{both, join, messagePlain, message-plain}
-use Rattle.codec.specs.Whole.{messagePlainAt, bytes-part}
+use Rattle.codec.specs.Spelling.{both, join, message-plain}
+use Rattle.codec.specs.Whole.{messagePlainAt}
 use Rattle.image.specs.Tests.{as-one}
 use Rattle.image.specs.Scan.{firstOk, messageOk, beyond-rule}
 
@@ -73,7 +73,7 @@ zeros [] e = refl
 zeros (x ∷ b) e = let p = both (eqb x 0) (zeroBytes b) e in ap₂ (λ (y : ℕ) (r : List ℕ). y ∷ r) (eqb-true x 0 (p .0)) (zeros b (p .1))
 
 zero-spelled : (m : Message) → zeroMessage m ≡ true → messageBytes m ≡ replicate messageWidth 0
-unfolding zeroMessage same messageBytes messageHead entryBytes
+unfolding zeroMessage same messageBytes entryBytes
 zero-spelled m e =
     let a = both (eqb (m .kind) 0) _ e in
     let b = both (eqb (m .sender) 0) _ (a .1) in
@@ -97,7 +97,7 @@ zero-spelled m e =
 
 -- all bytes of a record are zero where its spare bytes are and the message that it spells is zero
 zero-record : (b : List ℕ) → length b ≡ messageWidth → Bytes b → messagePlain b && zeroMessage (messageOf b) ≡ zeroBytes b
-unfolding messagePlain messageOf entryOf part zeroMessage same zeroBytes all
+unfolding messagePlain entryPlain zerosFrom messageOf entryOf part zeroMessage same zeroBytes all
 zero-record b e y =
     as-one (messagePlain b && zeroMessage (messageOf b)) (zeroBytes b)
     (λ p.
