@@ -9,4 +9,3 @@ pub mod Loops
 pub mod Walks
 pub mod Fresh
 pub mod Premise
-pub mod Begun

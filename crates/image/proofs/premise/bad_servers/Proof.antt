@@ -5,7 +5,7 @@ use borrow.Author.Needs.{needs}
 use Rattle.protocol.specs.Worlds.{bad}
 use Rattle.codec.specs.Images.{decode}
 use Rattle.protocol.specs.Tools.{countTo}
-use Rattle.values.specs.Bits.{count-le}
+use Rattle.protocol.specs.Laws.Tests.{count-le}
 use Rattle.image.specs.Loops.{count-start, count-more}
 use Rattle.image.proofs.premise.bad_servers.Statement.{statement}
 use Rattle.image.proofs.premise.bad_servers.Tie as tie

@@ -4,7 +4,8 @@ use Prim.Native.Nat.{_+_, _-_, _≤_}
 use native.Mathlib.Omega.{arith}
 use borrow.Author.Tests.{not-true, not-false}
 use borrow.Author.Needs.{needs}
-use Rattle.image.specs.Scan.{viewOk, lastOf, open-high}
+use Rattle.protocol.specs.Readable.{lastOf}
+use Rattle.image.specs.Scan.{viewOk, open-high}
 use Rattle.protocol.specs.Tools.{allTo}
 use Rattle.image.specs.Loops.{all-start, all-more, all-fails}
 use Rattle.image.proofs.readable.views_ok.Statement.{statement}
