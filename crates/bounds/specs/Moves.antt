@@ -31,7 +31,7 @@ use Rattle.protocol.specs.Laws.Worlds.{message-send, server-same, server-other}
 use Rattle.protocol.specs.Laws.Sound.{link-used}
 use Rattle.protocol.specs.Laws.Moves.{done-is, Serving, reads, writes, ends, joins, gathers, serving}
 use Rattle.protocol.specs.Laws.Kinds.{IsServer, server-of as who-server, by-kind}
-use Rattle.preservation.specs.Formed.{Formed}
+use Rattle.protocol.specs.Laws.Formed.{Formed}
 use Rattle.preservation.specs.Links.{Untaken, link-taken-other, v-taken}
 use Rattle.preservation.specs.Updates.{mail-zero, request-of, present-is}
 use Rattle.preservation.specs.Kept.{mailed}

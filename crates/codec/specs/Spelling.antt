@@ -11,7 +11,7 @@ use borrow.Author.Tests.{eqb-true, leb-true, eq-eqb, le-leb}
 use Rattle.protocol.specs.declared.Phase.{Phase}
 use Rattle.protocol.specs.declared.Phase.the-variants.{Idle, Reading, Writing}
 use Rattle.protocol.specs.declared.Ending.the-variants.{Settled, EndSent}
-use Rattle.protocol.specs.Tools.{bit, if}
+use Rattle.protocol.specs.Tools.{bit, if, both, join}
 use Rattle.protocol.specs.Clients.{number, requestOf, endOf, isEnding}
 use Rattle.protocol.specs.Runs.{u16At}
 use Rattle.codec.specs.Layout.{version, versionPlace, usedPlace, administratorPlace, administratorWidth, headerSparePlace, headerSpare, headerWidth}
@@ -25,15 +25,6 @@ use Rattle.codec.specs.Bytes.{Bytes, le16, zeros, byte-part, le16-part, 
 use Rattle.codec.specs.Records.{flagOf, untagged, entryOf, entryBytes, entryPlain, viewOf, viewBytes, viewPlain, serverOf, serverBytes, serverPlain}
 use Rattle.codec.specs.Records.{phaseOf, phaseTag, lastPhase, clientOf, clientBytes, clientPlain, messageOf, messageBytes, messagePlain}
 use Rattle.codec.specs.Records.{endingOf, administratorOf, administratorBytes, administratorPlain, headerBytes, headerPlain}
-
--- ---- parts of tests
-
-pub both : (a b : Bool) → a && b ≡ true → (a ≡ true) × (b ≡ true)
-both true b e = (refl, e)
-both false b e = (cc, cc)
-
-pub join : {a b : Bool} → a ≡ true → b ≡ true → a && b ≡ true
-join p q = rw (p, q)
 
 -- ---- flags and tags
 

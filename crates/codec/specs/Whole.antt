@@ -9,7 +9,6 @@ use native.Mathlib.Decide.{decLt}
 use lib.ListN.{length}
 use lib.Seq.{take-all}
 use lib.Dec.{lit<}
-use Rattle.protocol.specs.Tools.{allTo}
 use Rattle.protocol.specs.Sizes.{clients, servers, views, messages}
 use Rattle.protocol.specs.Worlds.{listTo}
 use Rattle.codec.specs.Layout.{imageSize, headerWidth, usedPlace, administratorPlace, administratorWidth, viewWidth, serverWidth, clientWidth, messageWidth, viewsAt, serversAt, clientsAt, messagesAt, viewPlace, serverPlace, clientPlace, messagePlace}
@@ -19,21 +18,7 @@ use Rattle.codec.specs.Records.{viewBytes, serverBytes, clientBytes, mes
 use Rattle.codec.specs.Places.{usedAt, administratorAt, viewAt, serverAt, clientAt, messageAt}
 use Rattle.codec.specs.Images.{encode, decode}
 use Rattle.codec.specs.Laws.{decode-full, part-header, part-view, part-server, part-client, part-message, view-decode, server-decode, client-decode, message-decode}
-use Rattle.codec.specs.Spelling.{both, join, headerOf, header-plain, plain-header, view-plain, plain-view, server-plain, plain-server, client-plain, plain-client, message-plain, plain-message}
-
--- ---- all the numbers 1 to n
-
-pub all-at : (p : ℕ → Bool) (n k : ℕ) → allTo p n ≡ true → 1 ≤ k → k ≤ n → p k ≡ true
-unfolding allTo
-all-at p zero k e l m = absurd (omega arith)
-all-at p (suc n) k e l m =
-    let q = both (allTo p n) (p (suc n)) e in
-    elim (decLt k (suc n)) [ yes h ↦ all-at p n k (q .0) l (le-of-suc-le-suc h) | no h ↦ rw (let s : k ≡ suc n = omega arith in s) (q .1) ]
-
-pub all-of : (p : ℕ → Bool) (n : ℕ) → ((k : ℕ) → 1 ≤ k → k ≤ n → p k ≡ true) → allTo p n ≡ true
-unfolding allTo
-all-of p zero h = refl
-all-of p (suc n) h = join (all-of p n (λ k l m. h k l (omega arith))) (h (suc n) (omega arith) (omega arith))
+use Rattle.codec.specs.Spelling.{headerOf, header-plain, plain-header, view-plain, plain-view, server-plain, plain-server, client-plain, plain-client, message-plain, plain-message}
 
 -- ---- the tests of an image
 

@@ -15,7 +15,7 @@ use Rattle.protocol.specs.Chains.{follow, chain}
 use Rattle.protocol.specs.Readable.{takenAnswer, chainFits}
 use Rattle.image.specs.declared.chain.Followed.{Followed}
 use Rattle.image.specs.declared.chain.Followed.the-variants.{Whole, Broken}
-use Rattle.image.specs.Tests.{by-test}
+use Rattle.protocol.specs.Laws.Tests.{by-test}
 use Rattle.image.specs.Links.{length-follow}
 use Rattle.image.specs.Chains.{sound, chainSound, links, chain-parts, parts-sound}
 

@@ -2,6 +2,7 @@
 ghost use mathlib.Core.Path.{_≡_};
 ghost use Prim.Native.Nat.{_≤_};
 ghost use lib.ListN.{length};
+ghost use Rattle.protocol.specs.Sizes.{servers};
 ghost use Rattle.protocol.specs.Worlds.{freshServer, freshWorld};
 ghost use Rattle.codec.specs.Layout.{imageSize};
 ghost use Rattle.codec.specs.Images.{encode};
@@ -26,6 +27,8 @@ use protocol::StampCount;
 use protocol::View;
 use protocol::ViewNumber;
 use protocol::limits::SERVERS;
+use protocol::refusals::WRONG_LENGTH;
+use protocol::refusals::WRONG_SIZE;
 use values::sets::has_server;
 use values::sizes::sized;
 
@@ -48,7 +51,7 @@ fn server_of(view: ViewNumber, keys: KeySet) -> Server
 
 // "Members hold view 1, key 1 and the empty entry"
 fn fresh_server(members: ServerSet, s: ServerNumber) -> Server
-    requires { ⌜ (1 ≤ s .0) × (s .0 ≤ 32) ⌝ }
+    requires { ⌜ (1 ≤ s .0) × (s .0 ≤ servers) ⌝ }
     ensures { λ r. ⌜ r ≡ freshServer (members .0) (s .0) ⌝ }
 {
     if has_server(members, s) {
@@ -59,7 +62,7 @@ fn fresh_server(members: ServerSet, s: ServerNumber) -> Server
 
 fn store_servers(image: &mut [u8], members: ServerSet)
     requires { ⌜ length (now image) ≡ imageSize ⌝ }
-    ensures { λ _. ⌜ now (image .exit) ≡ seeded (now (image .entry)) (members .0) 32 ⌝ }
+    ensures { λ _. ⌜ now (image .exit) ≡ seeded (now (image .entry)) (members .0) servers ⌝ }
 {
     for k in 0..SERVERS {
         let s = ServerNumber(k + 1);
@@ -90,14 +93,14 @@ pub fn fresh(image: &mut [u8], members: u32, f: u8) -> u8
     ensures { λ r. ⌜ (r ≡ freshOn (now (image .entry)) members f .refusal) × (now (image .exit) ≡ freshOn (now (image .entry)) members f .image) ⌝ }
 {
     if image.len() != IMAGE {
-        return 1;
+        return WRONG_LENGTH;
     }
     let v = View {
         members: ServerSet(members),
         f: f,
     };
     if !sized(v) {
-        return 8;
+        return WRONG_SIZE;
     }
     store_fresh(image, v);
     0

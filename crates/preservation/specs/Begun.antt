@@ -13,7 +13,7 @@ use Rattle.protocol.specs.Steps.{After, step}
 use Rattle.protocol.specs.Runs.{stepOf, stepBytes, left, run}
 use Rattle.protocol.specs.Readable.{endingFits, lastView, viewFits, serverFits, clientFits, zeroMessage, wellFormed}
 use Rattle.protocol.specs.Laws.Fresh.{First, member-of, outside, first, used-none, views-count, servers-count, clients-count, messages-count, fresh-newest, fresh-view, fresh-client, fresh-message, fresh-beyond}
-use Rattle.preservation.specs.Formed.{Formed, well-formed}
+use Rattle.protocol.specs.Laws.Formed.{Formed, well-formed}
 use Rattle.preservation.specs.Updates.{is-mail, is-view}
 use Rattle.preservation.specs.Kept.{step-kept}
 

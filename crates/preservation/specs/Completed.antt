@@ -21,7 +21,7 @@ use Rattle.protocol.specs.Worlds.{World, view, newest, server, client, message,
 use Rattle.protocol.specs.Steps.{After, moved, source?, link, takenWith, begins, answers, deliver, closes, starts, takes, take, fault, lie, newView, perform, step, viewAsked}
 use Rattle.protocol.specs.Readable.{wellFormed}
 use Rattle.protocol.specs.Laws.Tests.{and-left, and-right, within-true}
-use Rattle.preservation.specs.Formed.{Formed, formed}
+use Rattle.protocol.specs.Laws.Formed.{Formed, formed}
 use Rattle.preservation.specs.Updates.{present-is, request-of}
 use Rattle.preservation.specs.Kept.{mailed}
 

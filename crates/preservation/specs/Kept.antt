@@ -32,13 +32,14 @@ use Rattle.protocol.specs.Clients.{NONE, WRITES, READS, number, begin, closeSiz
 use Rattle.protocol.specs.Worlds.{World, view, server, client, message, newest, member, present, room, withServer, withClient, withView, withMessage, withAdministrator, send, nextNumber}
 use Rattle.protocol.specs.Chains.{chain, tagged, enough, shown}
 use Rattle.protocol.specs.Steps.{After, moved, request, answer, answers, begins, deliver, link, open?, takenWith, closes, starts, takes, take, fault, source?, lie, newView, writeStep, readStep, deliverStep, faultStep, falseStep, uses, viewAsked, step}
-use Rattle.protocol.specs.Readable.{isSent, serverFits, phaseFits, clientFits, senderFits, viewTagFits, requestFits, nextFits, entryZero, sentFits, takenAnswer, wellFormed}
+use Rattle.protocol.specs.Readable.{isSent, serverFits, phaseFits, clientFits, senderFits, tagRule, requestFits, nextFits, entryZero, sentFits, takenAnswer, wellFormed}
 use Rattle.protocol.specs.Laws.Tests.{and-left, and-right, and-both, clash, within-true, went}
 use Rattle.protocol.specs.Laws.Entries.{larger-one, Listed, head, tail, chosen-one}
 use Rattle.protocol.specs.Laws.Worlds.{message-new}
 use Rattle.protocol.specs.Laws.Moves.{done-is, is-done, room-left, Serving, reads, writes, ends, joins, gathers, serving}
 use Rattle.protocol.specs.Laws.Kinds.{IsClient, IsServer, client-of as who-client, server-of as who-server, value-of, by-kind}
-use Rattle.preservation.specs.Formed.{is-within, Formed, formed, well-formed}
+use Rattle.protocol.specs.Laws.Formed.{Formed, formed, well-formed}
+use Rattle.protocol.specs.Laws.Tests.{is-within}
 use Rattle.preservation.specs.Chained.{chained, all-map}
 use Rattle.preservation.specs.Links.{Untaken, taken-is}
 use Rattle.preservation.specs.Updates.{serverOk, mail-sent, request-of, present-is, clientOk, formed-server, formed-client, formed-send, formed-link, formed-raise, formed-call}
@@ -112,7 +113,7 @@ server-of {w} h s i = serves (newest w) (server w s) (h .served s (i .low) (i .h
 
 pub record Mailed (w : World) (m : Message) : Type 0 where
   pub sender : senderFits (m .kind) (m .sender) ≡ true
-  pub tag : viewTagFits w (m .kind) (m .view .0) ≡ true
+  pub tag : tagRule (newest w) (m .kind) (m .view .0) ≡ true
   pub entry : entryFits (m .entry) ≡ true
 
 pub mailed : {w : World} → Formed w → (n : ℕ) → 1 ≤ n → n ≤ w .used → Mailed w (message w n)
@@ -122,7 +123,7 @@ mailed {w} h n l u =
     let e = mail-sent h n l u in
     let e1 = and-right (within READ ANSWER (m .kind)) _ e in
     let e2 = and-right (senderFits (m .kind) (m .sender)) _ e1 in
-    let e3 = and-right (viewTagFits w (m .kind) (m .view .0)) _ e2 in
+    let e3 = and-right (tagRule (newest w) (m .kind) (m .view .0)) _ e2 in
     let e4 = and-right (requestFits w m) _ e3 in
     let e5 = and-right (nextFits m) _ e4 in
     record { sender = and-left _ _ e1; tag = and-left _ _ e2; entry = and-right (entryZero m) _ e5 }

@@ -1,6 +1,7 @@
 // The records of the protocol. The rules on them are the definitions in specs/.
 pub mod kinds;
 pub mod limits;
+pub mod refusals;
 
 // Four counters, counted apart.
 pub struct StampCount(pub u32);

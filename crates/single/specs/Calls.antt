@@ -12,7 +12,7 @@ use Rattle.protocol.specs.declared.Shown.{Shown}
 use Rattle.protocol.specs.Tools.{bit, Result, refused, done, guard, passed}
 use Rattle.protocol.specs.Servers.{Reply}
 use Rattle.protocol.specs.Clients.{Close}
-use Rattle.protocol.specs.Runs.{u16At}
+use Rattle.protocol.specs.Runs.{u16Width, u16At}
 use Rattle.codec.specs.Layout.{entryWidth, viewWidth, serverWidth, clientWidth, messageWidth, administratorWidth}
 use Rattle.codec.specs.Lists.{part, put, put-all}
 use Rattle.codec.specs.Bytes.{clear}
@@ -43,7 +43,7 @@ abbrev pub administratorSparePlace : ℕ
 administratorSparePlace = 1
 
 abbrev pub asked : ℕ
-asked = 4
+asked = numberPlace + u16Width
 
 -- rule u8, flag u8, view u8, 1 zero, message
 unfoldable pub serverCall : List ℕ → List ℕ → Result Reply

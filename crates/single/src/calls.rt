@@ -12,6 +12,7 @@ use codec::layout::CLIENT;
 use codec::layout::ENTRY;
 use codec::layout::MESSAGE;
 use codec::layout::SERVER;
+use codec::layout::U16;
 use codec::layout::VIEW;
 use codec::records::administrator_plain;
 use codec::records::client_plain;
@@ -29,6 +30,8 @@ use protocol::Called;
 use protocol::Closing;
 use protocol::MessageNumber;
 use protocol::Served;
+use protocol::refusals::UNFIT;
+use protocol::refusals::WRONG_LENGTH;
 
 // What is asked begins with four bytes of its own: the rule, three more by the machine.
 const RULE_AT: usize = 0;
@@ -45,26 +48,26 @@ const NUMBER_AT: usize = 2;
 
 const ADMINISTRATOR_SPARE_AT: usize = 1;
 
-const ASKED: usize = 4;
+const ASKED: usize = NUMBER_AT + U16;
 
 // "rule u8, flag u8, view u8, 1 zero, message"
 pub fn server_call(server: &[u8], call: &[u8]) -> Served
     ensures { λ r. ⌜ served r ≡ serverCall (now (server .entry)) (now (call .entry)) ⌝ }
 {
     if server.len() != SERVER {
-        return Served::ServeRefused(1);
+        return Served::ServeRefused(WRONG_LENGTH);
     }
     if call.len() != ASKED + MESSAGE {
-        return Served::ServeRefused(1);
+        return Served::ServeRefused(WRONG_LENGTH);
     }
     if !server_plain(server) {
-        return Served::ServeRefused(3);
+        return Served::ServeRefused(UNFIT);
     }
     if call[SERVER_SPARE_AT] != 0 {
-        return Served::ServeRefused(3);
+        return Served::ServeRefused(UNFIT);
     }
     if !message_plain(&call[ASKED..ASKED + MESSAGE]) {
-        return Served::ServeRefused(3);
+        return Served::ServeRefused(UNFIT);
     }
     let a = read_server(server);
     let m = read_message(&call[ASKED..ASKED + MESSAGE]);
@@ -76,16 +79,16 @@ pub fn client_call(client: &[u8], call: &[u8]) -> Closing
     ensures { λ r. ⌜ closing r ≡ clientCall (now (client .entry)) (now (call .entry)) ⌝ }
 {
     if client.len() != CLIENT {
-        return Closing::CloseRefused(1);
+        return Closing::CloseRefused(WRONG_LENGTH);
     }
     if call.len() != ASKED + ENTRY {
-        return Closing::CloseRefused(1);
+        return Closing::CloseRefused(WRONG_LENGTH);
     }
     if !client_plain(client) {
-        return Closing::CloseRefused(3);
+        return Closing::CloseRefused(UNFIT);
     }
     if !entry_plain(&call[ASKED..ASKED + ENTRY]) {
-        return Closing::CloseRefused(3);
+        return Closing::CloseRefused(UNFIT);
     }
     let c = read_client(client);
     let e = read_entry(&call[ASKED..ASKED + ENTRY]);
@@ -98,19 +101,19 @@ pub fn administrator_call(administrator: &[u8], call: &[u8]) -> Called
     ensures { λ r. ⌜ called r ≡ administratorCall (now (administrator .entry)) (now (call .entry)) ⌝ }
 {
     if administrator.len() != ADMINISTRATOR {
-        return Called::CallRefused(1);
+        return Called::CallRefused(WRONG_LENGTH);
     }
     if call.len() != ASKED + VIEW {
-        return Called::CallRefused(1);
+        return Called::CallRefused(WRONG_LENGTH);
     }
     if !administrator_plain(administrator) {
-        return Called::CallRefused(3);
+        return Called::CallRefused(UNFIT);
     }
     if call[ADMINISTRATOR_SPARE_AT] != 0 {
-        return Called::CallRefused(3);
+        return Called::CallRefused(UNFIT);
     }
     if !view_plain(&call[ASKED..ASKED + VIEW]) {
-        return Called::CallRefused(3);
+        return Called::CallRefused(UNFIT);
     }
     let a = read_administrator(administrator);
     let v = read_view(&call[ASKED..ASKED + VIEW]);

@@ -85,15 +85,6 @@ count-same p q zero h = refl
 count-same p q (suc n) h =
     rw (count-same p q n (λ s a b. h s a (omega arith)), h (suc n) (omega arith) (omega arith))
 
-bit-le : (b : Bool) → bit b ≤ 1
-bit-le true = omega arith
-bit-le false = omega arith
-
-pub count-le : (p : ℕ → Bool) (n : ℕ) → countTo p n ≤ n
-unfolding countTo
-count-le p zero = zero-le
-count-le p (suc n) = omega (arith, count-le p n, bit-le (p (suc n)))
-
 -- a set of one number holds that number alone
 of-held : (k s : ℕ) → 0 < s → holds (bitOf k) s ≡ eqb k s
 of-held k s h =

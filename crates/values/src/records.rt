@@ -24,8 +24,8 @@ ghost use mathlib.Core.Path.{_≡_};
 ghost use Prim.Native.Nat.{_^_};
 ghost use lib.Dec.{ltb};
 ghost use Rattle.protocol.specs.Tools.{within};
-ghost use Rattle.protocol.specs.Readable.{senderFits, nextFits, entryZero, zeroMessage};
-ghost use Rattle.values.specs.Records.{viewRule, keyRule, serverRule, idleRule, kindRule, askingRule, readingRule, tagRule, requestRule, messageRule};
+ghost use Rattle.protocol.specs.Readable.{viewRule, keyRule, serverRule, idleRule, kindRule, askingRule, readingRule};
+ghost use Rattle.protocol.specs.Readable.{senderFits, tagRule, requestRule, nextFits, entryZero, messageRule, zeroMessage};
 
 // The number of a message: 1 to the last.
 pub fn number_within(n: MessageNumber, last: u16) -> bool

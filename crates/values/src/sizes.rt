@@ -2,6 +2,7 @@
 use super::sets;
 use protocol::View;
 use protocol::limits::SERVERS;
+use protocol::refusals::WRONG_SIZE;
 ghost use mathlib.Core.Path.{_≡_};
 ghost use Rattle.protocol.specs.Sizes.{quorumSize, size, sized, readSize, writeSize};
 ghost use Rattle.values.specs.Sizes.{sizing};
@@ -22,16 +23,16 @@ pub fn quorum_size(n: u32, f: u32) -> QuorumSize
     ensures { λ r. ⌜ sizing r ≡ quorumSize n f ⌝ }
 {
     if n < 1 {
-        return QuorumSize::SizeRefused(8);
+        return QuorumSize::SizeRefused(WRONG_SIZE);
     }
     if LAST_SERVER < n {
-        return QuorumSize::SizeRefused(8);
+        return QuorumSize::SizeRefused(WRONG_SIZE);
     }
     if MOST_FAULTS < f {
-        return QuorumSize::SizeRefused(8);
+        return QuorumSize::SizeRefused(WRONG_SIZE);
     }
     if n < 3 * f + 1 {
-        return QuorumSize::SizeRefused(8);
+        return QuorumSize::SizeRefused(WRONG_SIZE);
     }
     QuorumSize::Size((n + f + 2) / 2)
 }

@@ -31,7 +31,7 @@ same-length-2 : tie.Need-same-length-2
 same-length-2 c = search needs
 
 returns-2 : tie.Need-returns-2
-returns-2 c = (rw (sym (c .before .before .before .before .before .before .before .administrator-call .ensures), c .before .before .before .before .before .step2 .given .1), rw (sym (c .before .before .before .before .before .before .before .administrator-call .ensures), c .before .before .before .before .before .step2 .given .1) (c .before .before .write-administrator .ensures ∙ administrator-written _ (c .args .call .now) _ (sym (c .administrator-call .ensures) ∙ ap called (c .step2 .given .1))))
+returns-2 c = (rw (sym (c .before .before .before .before .before .before .before .administrator-call .ensures), c .before .before .before .before .before .step2 .given .1), rw (sym (c .before .before .before .before .before .before .before .administrator-call .ensures), c .before .before .before .before .before .step2 .given .1) (c .before .before .write-administrator .ensures ∙ administrator-written _ (c .before .before .before .before .before .before .before .before .before .before .before .args .call .now) _ (sym (c .before .before .before .before .before .before .before .administrator-call .ensures) ∙ ap called (c .before .before .before .before .before .step2 .given .1))))
 
 pub zw-administrator-spec : {M : Type 1} → statement M
 zw-administrator-spec = tie.close (tie.spec administrator-call-requires enum-known-step cast-result enum-known-step-2 write-administrator-requires same-length returns same-length-2 returns-2)

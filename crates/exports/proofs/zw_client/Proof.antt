@@ -37,13 +37,13 @@ same-length-2 : tie.Need-same-length-2
 same-length-2 c = search needs
 
 returns-2 : tie.Need-returns-2
-returns-2 c = (rw (sym (c .before .before .before .before .before .before .before .client-call .ensures), c .before .before .before .before .before .step2 .given .1), rw (sym (c .before .before .before .before .before .before .before .client-call .ensures), c .before .before .before .before .before .step2 .given .1) (c .before .before .write-client .ensures ∙ client-written _ (c .args .call .now) _ (sym (c .client-call .ensures) ∙ ap closing (c .step2 .given .1))))
+returns-2 c = (rw (sym (c .before .before .before .before .before .before .before .client-call .ensures), c .before .before .before .before .before .step2 .given .1), rw (sym (c .before .before .before .before .before .before .before .client-call .ensures), c .before .before .before .before .before .step2 .given .1) (c .before .before .write-client .ensures ∙ client-written _ (c .before .before .before .before .before .before .before .before .before .before .before .args .call .now) _ (sym (c .before .before .before .before .before .before .before .client-call .ensures) ∙ ap closing (c .before .before .before .before .before .step2 .given .1))))
 
 same-length-3 : tie.Need-same-length-3
 same-length-3 c = search needs
 
 returns-3 : tie.Need-returns-3
-returns-3 c = (rw (sym (c .before .before .before .before .before .before .before .client-call .ensures), c .before .before .before .before .before .step3 .given .1), rw (sym (c .before .before .before .before .before .before .before .client-call .ensures), c .before .before .before .before .before .step3 .given .1) (c .before .before .write-client2 .ensures ∙ client-written _ (c .args .call .now) _ (sym (c .client-call .ensures) ∙ ap closing (c .step3 .given .1))))
+returns-3 c = (rw (sym (c .before .before .before .before .before .before .before .client-call .ensures), c .before .before .before .before .before .step3 .given .1), rw (sym (c .before .before .before .before .before .before .before .client-call .ensures), c .before .before .before .before .before .step3 .given .1) (c .before .before .write-client2 .ensures ∙ client-written _ (c .before .before .before .before .before .before .before .before .before .before .before .args .call .now) _ (sym (c .before .before .before .before .before .before .before .client-call .ensures) ∙ ap closing (c .before .before .before .before .before .step3 .given .1))))
 
 pub zw-client-spec : {M : Type 1} → statement M
 zw-client-spec = tie.close (tie.spec client-call-requires enum-known-step cast-result enum-known-step-2 write-client-requires enum-known-step-3 write-client-requires-2 same-length returns same-length-2 returns-2 same-length-3 returns-3)

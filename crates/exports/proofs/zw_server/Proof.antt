@@ -37,13 +37,13 @@ same-length-2 : tie.Need-same-length-2
 same-length-2 c = search needs
 
 returns-2 : tie.Need-returns-2
-returns-2 c = (rw (sym (c .before .before .before .before .before .before .before .server-call .ensures), c .before .before .before .before .before .reply2 .given .1), rw (sym (c .before .before .before .before .before .before .before .server-call .ensures), c .before .before .before .before .before .reply2 .given .1) (c .before .before .write-server .ensures ∙ server-written _ (c .args .call .now) _ (sym (c .server-call .ensures) ∙ ap served (c .reply2 .given .1))))
+returns-2 c = (rw (sym (c .before .before .before .before .before .before .before .server-call .ensures), c .before .before .before .before .before .reply2 .given .1), rw (sym (c .before .before .before .before .before .before .before .server-call .ensures), c .before .before .before .before .before .reply2 .given .1) (c .before .before .write-server .ensures ∙ server-written _ (c .before .before .before .before .before .before .before .before .before .before .before .args .call .now) _ (sym (c .before .before .before .before .before .before .before .server-call .ensures) ∙ ap served (c .before .before .before .before .before .reply2 .given .1))))
 
 same-length-3 : tie.Need-same-length-3
 same-length-3 c = search needs
 
 returns-3 : tie.Need-returns-3
-returns-3 c = (rw (sym (c .before .before .before .before .before .before .before .server-call .ensures), c .before .before .before .before .before .reply3 .given .1), rw (sym (c .before .before .before .before .before .before .before .server-call .ensures), c .before .before .before .before .before .reply3 .given .1) (c .before .before .write-server2 .ensures ∙ server-written _ (c .args .call .now) _ (sym (c .server-call .ensures) ∙ ap served (c .reply3 .given .1))))
+returns-3 c = (rw (sym (c .before .before .before .before .before .before .before .server-call .ensures), c .before .before .before .before .before .reply3 .given .1), rw (sym (c .before .before .before .before .before .before .before .server-call .ensures), c .before .before .before .before .before .reply3 .given .1) (c .before .before .write-server2 .ensures ∙ server-written _ (c .before .before .before .before .before .before .before .before .before .before .before .args .call .now) _ (sym (c .before .before .before .before .before .before .before .server-call .ensures) ∙ ap served (c .before .before .before .before .before .reply3 .given .1))))
 
 pub zw-server-spec : {M : Type 1} → statement M
 zw-server-spec = tie.close (tie.spec server-call-requires enum-known-reply cast-result enum-known-reply-2 write-server-requires enum-known-reply-3 write-server-requires-2 same-length returns same-length-2 returns-2 same-length-3 returns-3)

@@ -1,7 +1,7 @@
 use mathlib.Core.Path.{refl, ap, sym, _∙_}
 use borrow.Author.Tests.{not-true, not-false, le-leb}
 use borrow.Author.Needs.{needs}
-use Rattle.values.specs.Records.{pass}
+use Rattle.protocol.specs.Tools.{pass}
 use native.Mathlib.Omega.{arith}
 use Rattle.image.specs.Scan.{messageOk, open-used, beyond-rule}
 use Rattle.codec.specs.Places.{usedAt}

@@ -4,7 +4,8 @@ use Prim.Native.Nat.{_+_, _-_, _≤_}
 use native.Mathlib.Omega.{arith}
 use borrow.Author.Tests.{not-true, not-false}
 use borrow.Author.Needs.{needs}
-use Rattle.values.specs.Records.{pass}
+use Rattle.protocol.specs.Tools.{pass}
+use Rattle.protocol.specs.Worlds.{newest}
 use Rattle.image.specs.Scan.{messageOk, messagesOk, open-used}
 use Rattle.protocol.specs.Tools.{allTo}
 use Rattle.protocol.specs.Sizes.{messages}

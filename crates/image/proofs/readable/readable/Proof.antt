@@ -1,7 +1,7 @@
 use mathlib.Core.Path.{ap, sym, _∙_}
 use borrow.Author.Tests.{not-true, not-false}
 use borrow.Author.Needs.{needs}
-use Rattle.values.specs.Records.{pass}
+use Rattle.protocol.specs.Tools.{pass}
 use Rattle.image.specs.Scan.{open-header, readable-scan, readable-size, scanned}
 use Rattle.protocol.specs.declared.Administrator.{Administrator}
 use Rattle.image.proofs.readable.readable.Statement.{statement}

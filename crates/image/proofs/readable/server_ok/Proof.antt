@@ -2,7 +2,7 @@ use mathlib.Core.Path.{ap, sym, _∙_}
 use native.Mathlib.Omega.{arith}
 use borrow.Author.Tests.{not-true, not-false}
 use borrow.Author.Needs.{needs}
-use Rattle.values.specs.Records.{pass}
+use Rattle.protocol.specs.Tools.{pass}
 use Rattle.image.specs.Scan.{server-rule, serverOk, open-high}
 use Rattle.codec.specs.Records.{serverPlain}
 use Rattle.codec.specs.Lists.{span}

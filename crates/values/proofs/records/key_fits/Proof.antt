@@ -7,20 +7,17 @@ use borrow.Author.Needs.{needs}
 use Rattle.protocol.specs.declared.KeySet.{KeySet}
 use Rattle.protocol.specs.declared.Server.{Server}
 use Rattle.values.specs.Bits.{bitIn, own-in}
-use Rattle.values.specs.Records.{keyRule}
+use Rattle.protocol.specs.Readable.{keyRule}
 use Rattle.values.proofs.records.key_fits.Statement.{statement}
 use Rattle.values.proofs.records.key_fits.Tie as tie
 
 own : (s : Server) → s .keys .0 < 2 ^ 32 → s .faulty ≡ false → (s .keys .0 ≡ 0 → ⊥) → eqb (s .keys .0) (bitIn (s .view .0)) ≡ keyRule s
-unfolding keyRule
 own s h e f = simp (e, ne-eqb (s .keys .0) 0 f, own-in (s .keys .0) (s .view .0) h f)
 
 returns : tie.Need-returns
-unfolding keyRule
 returns c = simp (c .if1 .taken)
 
 returns-2 : tie.Need-returns-2
-unfolding keyRule
 returns-2 c = simp (eq-eqb _ _ (c .if2 .taken), c .before .before .if1 .left)
 
 key-of-requires : tie.Need-key-of-requires
