@@ -65,6 +65,11 @@ uint64_t zw_premise(const uint8_t *image, size_t n);
  * refused. Result: the steps done, beside a refusal too. */
 uint64_t zw_replay(uint8_t *image, size_t n, const uint8_t *journal, size_t m);
 
+/* The rest of a journal: its steps but the first ones, which were done before
+ * on this image, up to the first that is refused. Result: the steps done now,
+ * beside a refusal too. Refusal 1 also if the journal has fewer steps. */
+uint64_t zw_resume(uint8_t *image, size_t n, const uint8_t *journal, size_t m, uint64_t steps);
+
 /* The rules of one machine, on its record alone, as a real machine runs them.
  * docs/LAYOUT.md has what is asked of it. Refusals 1, 3, then as its step, but
  * 10: only the world knows how many message numbers are used. */

@@ -50,13 +50,7 @@ fn taken_answer(image: &[u8], request: MessageNumber, n: MessageNumber) -> bool
 
 // "From a request the links are followed until zero": from n on, with the links still allowed and those followed so far. All that
 // it carries and answers is numbers, which stay in registers.
-fn walk(
-    image: &[u8],
-    request: MessageNumber,
-    n: MessageNumber,
-    left: u16,
-    links: u16,
-) -> u16
+fn walk(image: &[u8], request: MessageNumber, n: MessageNumber, left: u16, links: u16) -> u16
     requires { ⌜ Open (now image) × (links + left ≤ messages) ⌝ }
     ensures { λ r. ⌜ r ≡ numbered (walked (decode (now (image .entry))) (request .0) left (n .0) links) ⌝ }
 {
