@@ -13,7 +13,7 @@ use lib.Bits.{bitOr, or-zero-l, or-add-and, and-le-l, and-le-r}
 use lib.Dec.{eqb}
 use borrow.Author.Tests.{eqb-true, eq-eqb, lt-leb, not-true}
 use Rattle.protocol.specs.declared.Message.{Message}
-use Rattle.protocol.specs.Tools.{allTo, all}
+use Rattle.protocol.specs.Tools.{allTo, all, both, join}
 use Rattle.protocol.specs.Sizes.{messages}
 use Rattle.protocol.specs.Entries.{countOf, writerOf, same}
 use Rattle.protocol.specs.Readable.{zeroMessage}
@@ -24,7 +24,7 @@ use Rattle.codec.specs.Records.{entryOf, entryBytes, messageOf, messageBytes, m
 use Rattle.codec.specs.Places.{usedAt, messageAt}
 use Rattle.codec.specs.Images.{decode}
 use Rattle.codec.specs.Laws.{message-decode}
-use Rattle.codec.specs.Spelling.{both, join, message-plain}
+use Rattle.codec.specs.Spelling.{message-plain}
 use Rattle.codec.specs.Whole.{messagePlainAt}
 use Rattle.image.specs.Tests.{as-one}
 use Rattle.image.specs.Scan.{firstOk, messageOk, beyond-rule}
