@@ -49,13 +49,5 @@ returns-2 c =
 pub first-ok-spec : {M : Type 1} → statement M
 first-ok-spec =
     tie.close
-    (tie.spec
-    add-message-plain
-    sub-message-plain
-    part-message-plain-start
-    part-message-plain-end
-    message-plain-requires
-    returns
-    load-message-requires
-    zero-message-requires
-    returns-2)
+    (tie.spec add-message-plain sub-message-plain part-message-plain-start part-message-plain-end message-plain-requires returns load-message-requires
+    zero-message-requires returns-2)

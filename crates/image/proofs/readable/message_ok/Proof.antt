@@ -55,15 +55,5 @@ returns-2 c =
 pub message-ok-spec : {M : Type 1} → statement M
 message-ok-spec =
     tie.close
-    (tie.spec
-    cast-at
-    mul-at
-    add-at
-    add-message-plain
-    sub-message-plain
-    part-message-plain-start
-    part-message-plain-end
-    message-plain-requires
-    returns
-    message-fits-requires
-    returns-2)
+    (tie.spec cast-at mul-at add-at add-message-plain sub-message-plain part-message-plain-start part-message-plain-end message-plain-requires returns
+    message-fits-requires returns-2)

@@ -4,10 +4,9 @@ use Prim.Native.Nat.{_+_, _-_, _≤_}
 use native.Mathlib.Omega.{arith}
 use borrow.Author.Tests.{not-true, not-false}
 use borrow.Author.Needs.{needs}
-use Rattle.protocol.specs.Tools.{pass}
+use Rattle.protocol.specs.Tools.{pass, allTo}
 use Rattle.protocol.specs.Worlds.{newest}
 use Rattle.image.specs.Scan.{messageOk, messagesOk}
-use Rattle.protocol.specs.Tools.{allTo}
 use Rattle.image.specs.Loops.{all-start, all-more, all-fails}
 use Rattle.image.proofs.readable.messages_ok.Statement.{statement}
 use Rattle.image.proofs.readable.messages_ok.Tie as tie
@@ -64,17 +63,5 @@ returns-3 c =
 pub messages-ok-spec : {M : Type 1} → statement M
 messages-ok-spec =
     tie.close
-    (tie.spec
-    Inv-loop
-    μ-loop
-    first-ok-requires
-    returns
-    load-used-requires
-    loop-holds
-    add-t8
-    message-ok-requires
-    returns-2
-    add-k
-    loop-less
-    loop-again
+    (tie.spec Inv-loop μ-loop first-ok-requires returns load-used-requires loop-holds add-t8 message-ok-requires returns-2 add-k loop-less loop-again
     returns-3)
