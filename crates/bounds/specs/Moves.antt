@@ -23,7 +23,7 @@ use Rattle.protocol.specs.Servers.{WRITE, END, START, Reply, keeping, withoutKe
 use Rattle.protocol.specs.Clients.{WRITES, READS, begin, closeSize, Close, close, call, advance}
 use Rattle.protocol.specs.Worlds.{World, view, server, client, message, newest, member, present, room, withServer, withClient, withView, withAdministrator, withMessage, send}
 use Rattle.protocol.specs.Chains.{enough, shown}
-use Rattle.protocol.specs.Steps.{After, moved, request, answers, begins, deliver, link, takenWith, closes, starts, takes, take, fault, source?, lie, newView, uses, fieldsFit, perform, step, deliverStep, faultStep, viewAsked}
+use Rattle.protocol.specs.Steps.{After, moved, request, answers, begins, deliver, link, takenWith, closes, starts, takes, take, fault, source?, lie, newView, uses, step, deliverStep, faultStep, viewAsked}
 use Rattle.protocol.specs.Readable.{serverFits, zeroMessage}
 use Rattle.protocol.specs.Laws.Tests.{and-left, and-right, or-cases, by-bool, clash, within-true, went}
 use Rattle.protocol.specs.Laws.Bits.{holds-bitOf, holds-own, holds-or, holds-none}

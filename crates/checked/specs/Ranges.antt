@@ -1,6 +1,6 @@
 -- The ranges of single records, for a machine that knows no newest view. Assumes nothing.
 use Prim.Native.Nat.{ℕ, _≤_, _<_}
-use mathlib.Core.Path.{_≡_, refl}
+use mathlib.Core.Path.{_≡_}
 use native.Mathlib.Omega.{arith}
 use borrow.Author.Tests.{leb-true, ltb-true, eqb-true}
 use mathlib.Core.Bool.{Bool, true, false, _&&_}
@@ -11,8 +11,7 @@ use Rattle.protocol.specs.Sizes.{views, messages}
 use Rattle.protocol.specs.Entries.{entryFits}
 use Rattle.protocol.specs.Servers.{READ, WRITE, ANSWER}
 use Rattle.protocol.specs.Clients.{isEnding}
-use Rattle.protocol.specs.Readable.{senderFits}
-use Rattle.protocol.specs.Readable.{serverRule, idleRule, kindRule, readingRule, tagRule, messageRule}
+use Rattle.protocol.specs.Readable.{senderFits, serverRule, idleRule, kindRule, readingRule, tagRule, messageRule}
 
 -- "messages 1 to 1,023"
 unfoldable pub numberFits : ℕ → Bool

@@ -3,7 +3,7 @@
 -- whose numbers fit (`ViewFits` ..); bytes to record to bytes is in Spelling. Used by the code of `records` and by Places.
 use mathlib.Core.Path.{_≡_, refl, ap, sym}
 use mathlib.Core.Bool.{Bool, true, false, not, _&&_, _||_}
-use mathlib.Core.List.{List, [], _∷_, _++_}
+use mathlib.Core.List.{List, _∷_, _++_}
 use Prim.Native.Nat.{ℕ, _<_, _^_}
 use lib.ListN.{getD, length, replicate}
 use lib.Dec.{eqb, leb}

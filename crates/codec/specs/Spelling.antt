@@ -20,7 +20,7 @@ use Rattle.codec.specs.Layout.{membersPlace, thresholdPlace, viewSparePl
 use Rattle.codec.specs.Layout.{serverViewPlace, faultyPlace, serverSparePlace, serverSpare, keysPlace, serverEntryPlace, serverWidth}
 use Rattle.codec.specs.Layout.{phasePlace, clientKindPlace, clientRequestPlace, clientEntryPlace, clientWidth}
 use Rattle.codec.specs.Layout.{messageKindPlace, senderPlace, messageViewPlace, takenPlace, messageRequestPlace, nextPlace, messageEntryPlace, messageWidth}
-use Rattle.codec.specs.Lists.{part, length-part, Spells, spells-none, spells, spelled}
+use Rattle.codec.specs.Lists.{part, length-part, spells-none, spells, spelled}
 use Rattle.codec.specs.Bytes.{Bytes, le16, zeros, byte-part, le16-part, le32-part, zeros-part, zeros-back, bytes-part}
 use Rattle.codec.specs.Records.{flagOf, untagged, entryOf, entryBytes, entryPlain, viewOf, viewBytes, viewPlain, serverOf, serverBytes, serverPlain}
 use Rattle.codec.specs.Records.{phaseOf, phaseTag, lastPhase, clientOf, clientBytes, clientPlain, messageOf, messageBytes, messagePlain}

@@ -3,9 +3,8 @@ use mathlib.Core.Path.{_≡_, refl, sym, ap, _∙_}
 use mathlib.Core.Bool.{Bool, true}
 use mathlib.Core.List.{List, [], _++_}
 use Prim.Native.Nat.{ℕ, zero, suc, _+_, _*_, _-_, _≤_, _<_}
-use native.Mathlib.Nat.{zero-mul, suc-mul, mul-suc, mul-zero, not-suc-le-zero, le-of-suc-le-suc}
+use native.Mathlib.Nat.{zero-mul, suc-mul, mul-suc, mul-zero, not-suc-le-zero}
 use native.Mathlib.Omega.{arith}
-use native.Mathlib.Decide.{decLt}
 use lib.ListN.{length}
 use lib.Seq.{take-all}
 use lib.Dec.{lit<}

@@ -8,16 +8,13 @@ use native.Mathlib.Omega.{arith}
 use lib.ListN.{length}
 use lib.Dec.{eqb}
 use borrow.Author.Tests.{eqb-true, eq-eqb, le-leb}
-use Rattle.protocol.specs.Tools.{if, bit, within, countTo, allTo, any, all}
+use Rattle.protocol.specs.Tools.{if, bit, within, countTo, allTo, any, all, both, join, sumTo}
 use Rattle.protocol.specs.Sizes.{messages}
 use Rattle.protocol.specs.Servers.{ANSWER, isRequest}
 use Rattle.protocol.specs.Worlds.{World, message, present}
 use Rattle.protocol.specs.Chains.{follow, chain}
 use Rattle.protocol.specs.Readable.{takenAnswer, distinct, ends, chainFits, messageFits}
-use Rattle.protocol.specs.Tools.{both, join}
-use Rattle.protocol.specs.Laws.Tests.{by-test, clash, or-cases}
-use Rattle.protocol.specs.Laws.Tests.{allTo-at, all-to}
-use Rattle.protocol.specs.Tools.{sumTo}
+use Rattle.protocol.specs.Laws.Tests.{by-test, clash, or-cases, allTo-at, all-to}
 use Rattle.image.specs.Tests.{as-one, implied}
 use Rattle.image.specs.Counts.{Each, count-mono, count-ext, count-none, count-same, count-one, count-list, sum-same, sum-ext, swap}
 use Rattle.image.specs.Links.{Ended, once}

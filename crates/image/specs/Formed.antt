@@ -1,20 +1,17 @@
 -- A well-formed world, part by part; its records can be stored. Assumes nothing.
 use mathlib.Core.Path.{_≡_, sym, _∙_}
 use mathlib.Core.Bool.{true, not, _&&_}
-use Prim.Native.Nat.{ℕ, suc, _≤_}
-use lib.ListN.{length}
+use Prim.Native.Nat.{ℕ, _≤_}
 use lib.Dec.{leb, eqb}
-use borrow.Author.Tests.{eqb-true, eq-eqb, leb-true, le-leb, not-true}
+use borrow.Author.Tests.{eqb-true, leb-true, le-leb, not-true}
 use Rattle.protocol.specs.declared.Message.{Message}
-use Rattle.protocol.specs.Tools.{within, allTo}
-use Rattle.protocol.specs.Sizes.{clients, servers, views, messages}
+use Rattle.protocol.specs.Tools.{within, both, join}
+use Rattle.protocol.specs.Sizes.{views, messages}
 use Rattle.protocol.specs.Entries.{entryFits}
 use Rattle.protocol.specs.Servers.{READ, ANSWER, isRequest}
 use Rattle.protocol.specs.Worlds.{World, view, server, client, message, newest, present}
-use Rattle.protocol.specs.Chains.{chain}
-use Rattle.protocol.specs.Readable.{isSent, endingFits, headerFits, senderFits, tagRule, requestFits, nextFits, entryZero, sentFits, zeroMessage, messageFits}
+use Rattle.protocol.specs.Readable.{isSent, headerFits, senderFits, tagRule, requestFits, nextFits, entryZero, sentFits, zeroMessage, messageFits}
 use Rattle.codec.specs.Laws.{Full}
-use Rattle.protocol.specs.Tools.{both, join}
 use Rattle.protocol.specs.Laws.Tests.{by-test, clash}
 use Rattle.protocol.specs.Laws.Formed.{Formed, header-parts}
 use Rattle.image.specs.Tests.{if-true, if-false}

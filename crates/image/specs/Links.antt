@@ -1,6 +1,6 @@
 -- A walk along links that ends meets no number twice. Assumes nothing.
 use mathlib.Core.Path.{_≡_, refl, ap}
-use mathlib.Core.Bool.{Bool, true, false, not}
+use mathlib.Core.Bool.{Bool, true, not}
 use mathlib.Core.Logic.{_⊎_, inl, inr, ⊎-elim}
 use mathlib.Core.List.{List, [], _∷_}
 use Prim.Native.Nat.{ℕ, zero, suc, _≤_}
@@ -8,11 +8,10 @@ use native.Mathlib.Omega.{arith}
 use lib.ListN.{length}
 use lib.Dec.{eqb}
 use borrow.Author.Tests.{eqb-true}
-use Rattle.protocol.specs.Tools.{any, all}
+use Rattle.protocol.specs.Tools.{any, all, both, join}
 use Rattle.protocol.specs.Worlds.{World, message}
 use Rattle.protocol.specs.Chains.{follow}
 use Rattle.protocol.specs.Readable.{distinct}
-use Rattle.protocol.specs.Tools.{both, join}
 use Rattle.protocol.specs.Laws.Tests.{by-test, clash, or-cases}
 
 -- one more link allowed meets no more

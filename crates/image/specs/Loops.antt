@@ -3,10 +3,8 @@ use mathlib.Core.Path.{_≡_, refl}
 use mathlib.Core.Bool.{Bool, true, false}
 use Prim.Native.Nat.{ℕ, _+_, _≤_}
 use native.Mathlib.Numerals.{add-one}
-use Rattle.protocol.specs.Tools.{bit, countTo, allTo, sumTo}
-use Rattle.protocol.specs.Tools.{join}
-use Rattle.protocol.specs.Laws.Tests.{by-test, clash}
-use Rattle.protocol.specs.Laws.Tests.{allTo-at}
+use Rattle.protocol.specs.Tools.{bit, countTo, allTo, sumTo, join}
+use Rattle.protocol.specs.Laws.Tests.{by-test, clash, allTo-at}
 
 module _ (p : ℕ → Bool) where
   pub count-start : countTo p 0 ≡ 0

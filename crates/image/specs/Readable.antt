@@ -18,21 +18,19 @@ use Rattle.protocol.specs.declared.Client.{Client}
 use Rattle.protocol.specs.declared.Ending.{Ending}
 use Rattle.protocol.specs.declared.Ending.the-variants.{Settled, EndSent}
 use Rattle.protocol.specs.declared.Message.{Message}
-use Rattle.protocol.specs.Tools.{within, any, bitOf}
-use Rattle.protocol.specs.Sizes.{clients, servers, views, messages, sized, sizeRule, size}
+use Rattle.protocol.specs.Tools.{within, any, bitOf, both, join}
+use Rattle.protocol.specs.Sizes.{clients, views, messages, sized, sizeRule, size}
 use Rattle.protocol.specs.Entries.{countOf, writerOf, same, empty, entryFits}
 use Rattle.protocol.specs.Servers.{READ, WRITE, END, ANSWER, isRequest}
 use Rattle.protocol.specs.Clients.{WRITES, READS, requestOf, endOf}
 use Rattle.protocol.specs.Worlds.{World, view, server, client, message, newest, present}
 use Rattle.protocol.specs.Chains.{chain}
-use Rattle.protocol.specs.Readable.{isSent, endingFits, lastView, viewFits, serverFits, phaseFits, clientFits, sentFits, zeroMessage, messageFits, takenAnswer, chainFits, wellFormed}
+use Rattle.protocol.specs.Readable.{isSent, endingFits, lastView, viewFits, serverFits, phaseFits, clientFits, sentFits, zeroMessage, messageFits, takenAnswer, wellFormed}
 use Rattle.codec.specs.Layout.{imageSize}
 use Rattle.codec.specs.Records.{EntryFits, ViewFits, ServerFits, ClientFits, MessageFits}
 use Rattle.codec.specs.Images.{encode, decode}
 use Rattle.codec.specs.Laws.{Storable, length-encode, decode-encode}
-use Rattle.protocol.specs.Tools.{both, join}
-use Rattle.protocol.specs.Laws.Tests.{by-test, clash, or-cases}
-use Rattle.protocol.specs.Laws.Tests.{allTo-at}
+use Rattle.protocol.specs.Laws.Tests.{by-test, clash, or-cases, allTo-at}
 use Rattle.image.specs.Tests.{implied, if-true, if-false}
 use Rattle.image.specs.Links.{first-met, next-met}
 use Rattle.protocol.specs.Laws.Formed.{Formed, formed}

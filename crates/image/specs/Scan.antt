@@ -2,7 +2,7 @@
 use mathlib.Core.Path.{_≡_, sym, _∙_}
 use mathlib.Core.Bool.{Bool, true, false, _&&_}
 use mathlib.Core.List.{List}
-use Prim.Native.Nat.{ℕ, zero, suc, _+_, _≤_}
+use Prim.Native.Nat.{ℕ, zero, suc, _≤_}
 use native.Mathlib.Omega.{arith}
 use lib.ListN.{length}
 use lib.Dec.{ltb, leb, eqb}
@@ -11,11 +11,10 @@ use Rattle.protocol.specs.declared.MessageNumber.{MessageNumber}
 use Rattle.protocol.specs.declared.Ending.the-variants.{EndSent}
 use Rattle.protocol.specs.declared.Administrator.{Administrator}
 use Rattle.protocol.specs.declared.Message.{Message}
-use Rattle.protocol.specs.Tools.{if, bit, within, countTo, allTo}
+use Rattle.protocol.specs.Tools.{if, within, countTo, allTo, both, join, sumTo}
 use Rattle.protocol.specs.Sizes.{clients, servers, views, messages}
 use Rattle.protocol.specs.Entries.{entryFits}
-use Rattle.protocol.specs.Servers.{END, isRequest}
-use Rattle.protocol.specs.Clients.{isEnding}
+use Rattle.protocol.specs.Servers.{END}
 use Rattle.protocol.specs.Worlds.{World, message, present}
 use Rattle.protocol.specs.Readable.{viewRule, serverRule, messageRule, lastOf, isAsked}
 use Rattle.protocol.specs.Readable.{isSent, endingFits, sentFits, phaseFits, headerFits, lastView, viewFits, serverFits, clientFits, zeroMessage, messageFits, takenAnswer, chainFits}
@@ -26,11 +25,9 @@ use Rattle.codec.specs.Places.{usedAt, administratorAt, viewAt, serverAt, clien
 use Rattle.codec.specs.Images.{decode}
 use Rattle.codec.specs.Laws.{decode-full, used-decode, view-decode, server-decode, client-decode, message-decode}
 use Rattle.codec.specs.Records.{headerPlain}
-use Rattle.protocol.specs.Tools.{both, join}
 use Rattle.codec.specs.Whole.{Plain, viewPlainAt, serverPlainAt, clientPlainAt, messagePlainAt, encode-decode, plain-image}
 use Rattle.protocol.specs.Readable.{viewRule, serverRule, messageRule}
 use Rattle.protocol.specs.Laws.Tests.{allTo-at, all-to}
-use Rattle.protocol.specs.Tools.{sumTo}
 use Rattle.image.specs.Tests.{as-one}
 use Rattle.image.specs.Counts.{Each}
 use Rattle.protocol.specs.Laws.Formed.{formed, well-formed, header-of, header-parts}

@@ -16,8 +16,7 @@ use Rattle.protocol.specs.Servers.{isRequest}
 use Rattle.protocol.specs.Worlds.{World, message}
 use Rattle.protocol.specs.Chains.{follow, chain}
 use Rattle.protocol.specs.Readable.{takenAnswer, distinct, ends, chainFits}
-use Rattle.protocol.specs.Laws.Tests.{and-left, and-right, and-both, or-cases, by-bool, clash, last-or, within-true, allTo-at}
-use Rattle.protocol.specs.Laws.Tests.{all-to, count-le}
+use Rattle.protocol.specs.Laws.Tests.{and-left, and-right, and-both, or-cases, by-bool, clash, last-or, within-true, allTo-at, all-to, count-le}
 
 -- "each chain holds only taken answers of its request, all of them, each one time", and it ends
 pub record Chained (w : World) (r : ℕ) : Type 0 where

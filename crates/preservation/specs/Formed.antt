@@ -1,12 +1,10 @@
 -- What the clauses of a readable world rest on, and what later worlds keep of it. Assumes nothing.
-use Prim.Native.Nat.{ℕ, zero, suc, _≤_, _<_}
-use native.Mathlib.Nat.{le-refl}
+use Prim.Native.Nat.{ℕ, _≤_, _<_}
 use native.Mathlib.Omega.{arith}
 use mathlib.Core.Bool.{Bool, true, false, not, _&&_}
 use mathlib.Core.Path.{_≡_, refl, sym, ap, _∙_}
-use lib.ListN.{length}
 use lib.Dec.{ltb, leb, eqb}
-use borrow.Author.Tests.{ltb-true, leb-true, eqb-true, lt-ltb, le-leb, eq-eqb}
+use borrow.Author.Tests.{ltb-true, eqb-true, lt-ltb, eq-eqb}
 use Rattle.protocol.specs.declared.ViewNumber.{ViewNumber}
 use Rattle.protocol.specs.declared.Message.{Message}
 use Rattle.protocol.specs.declared.Client.{Client}
@@ -14,13 +12,13 @@ use Rattle.protocol.specs.declared.Phase.{Phase}
 use Rattle.protocol.specs.declared.Phase.the-variants.{Idle, Reading, Writing}
 use Rattle.protocol.specs.declared.Ending.{Ending}
 use Rattle.protocol.specs.declared.Ending.the-variants.{Settled, EndSent}
-use Rattle.protocol.specs.Tools.{if, within, allTo}
-use Rattle.protocol.specs.Sizes.{clients, servers, views, messages}
+use Rattle.protocol.specs.Tools.{if, within}
+use Rattle.protocol.specs.Sizes.{views}
 use Rattle.protocol.specs.Entries.{same}
 use Rattle.protocol.specs.Servers.{READ, WRITE, END, ANSWER, isRequest}
 use Rattle.protocol.specs.Clients.{WRITES, READS}
-use Rattle.protocol.specs.Worlds.{World, view, client, message, newest, present}
-use Rattle.protocol.specs.Readable.{shape, isSent, endingFits, headerFits, viewFits, serverFits, phaseFits, clientFits, senderFits, tagRule, requestFits, sentFits, zeroMessage, messageFits, chainFits, wellFormed}
+use Rattle.protocol.specs.Worlds.{World, view, message, newest, present}
+use Rattle.protocol.specs.Readable.{isSent, endingFits, phaseFits, senderFits, tagRule, requestFits, sentFits}
 use Rattle.protocol.specs.Laws.Tests.{and-left, and-right, and-both, within-true, is-within}
 use Rattle.protocol.specs.Laws.Worlds.{content, sent}
 

@@ -33,13 +33,12 @@ use Rattle.protocol.specs.Worlds.{World, view, server, client, message, newest,
 use Rattle.protocol.specs.Chains.{chain, tagged, enough, shown}
 use Rattle.protocol.specs.Steps.{After, moved, request, answer, answers, begins, deliver, link, open?, takenWith, closes, starts, takes, take, fault, source?, lie, newView, writeStep, readStep, deliverStep, faultStep, falseStep, uses, viewAsked, step}
 use Rattle.protocol.specs.Readable.{isSent, serverFits, phaseFits, clientFits, senderFits, tagRule, requestFits, nextFits, entryZero, sentFits, takenAnswer, wellFormed}
-use Rattle.protocol.specs.Laws.Tests.{and-left, and-right, and-both, clash, within-true, went}
+use Rattle.protocol.specs.Laws.Tests.{and-left, and-right, and-both, clash, within-true, went, is-within}
 use Rattle.protocol.specs.Laws.Entries.{larger-one, Listed, head, tail, chosen-one}
 use Rattle.protocol.specs.Laws.Worlds.{message-new}
 use Rattle.protocol.specs.Laws.Moves.{done-is, is-done, room-left, Serving, reads, writes, ends, joins, gathers, serving}
 use Rattle.protocol.specs.Laws.Kinds.{IsClient, IsServer, client-of as who-client, server-of as who-server, value-of, by-kind}
 use Rattle.protocol.specs.Laws.Formed.{Formed, formed, well-formed}
-use Rattle.protocol.specs.Laws.Tests.{is-within}
 use Rattle.preservation.specs.Chained.{chained, all-map}
 use Rattle.preservation.specs.Links.{Untaken, taken-is}
 use Rattle.preservation.specs.Updates.{serverOk, mail-sent, request-of, present-is, clientOk, formed-server, formed-client, formed-send, formed-link, formed-raise, formed-call}

@@ -6,7 +6,7 @@ use lib.ListN.{getD, set, replicate}
 use lib.Dec.{ltb, leb}
 use Rattle.protocol.specs.Types.{View, Server, Idle, Client, Settled, Administrator, Message}
 use Rattle.protocol.specs.Tools.{if, countTo, allTo, within, holds, nth, replace, Result, done, guard}
-use Rattle.protocol.specs.Sizes.{clients, servers, views, messages, viewWith, sized}
+use Rattle.protocol.specs.Sizes.{clients, servers, messages, viewWith, sized}
 use Rattle.protocol.specs.Entries.{empty}
 use Rattle.protocol.specs.Clients.{NONE, number}
 

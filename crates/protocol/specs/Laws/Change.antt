@@ -8,7 +8,7 @@ use Rattle.protocol.specs.Types.{Entry, Server, Message, Idle, Reading, 
 use Rattle.protocol.specs.Tools.{countTo, holds}
 use Rattle.protocol.specs.Sizes.{servers, readSize, writeSize}
 use Rattle.protocol.specs.Entries.{empty}
-use Rattle.protocol.specs.Servers.{READ, WRITE, END, START, ANSWER, isRequest}
+use Rattle.protocol.specs.Servers.{WRITE, END, START, ANSWER, isRequest}
 use Rattle.protocol.specs.Clients.{number, toWrite}
 use Rattle.protocol.specs.Worlds.{World, view, server, client, newest, member}
 use Rattle.protocol.specs.Laws.Entries.{_≼_}

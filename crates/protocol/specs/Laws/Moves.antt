@@ -11,11 +11,10 @@ use lib.ListN.{length}
 use lib.Dec.{eqb}
 use borrow.Author.Tests.{ltb-true, eqb-true, eqb-false, not-true}
 use Rattle.protocol.specs.Types.{Entry, Server, Message, Shown}
-use Rattle.protocol.specs.Tools.{if, within, holds, bitOf, done, guard, then, passed}
-use Rattle.protocol.specs.Sizes.{servers, messages}
+use Rattle.protocol.specs.Tools.{if, within, holds, bitOf, done, guard, passed}
+use Rattle.protocol.specs.Sizes.{messages}
 use Rattle.protocol.specs.Entries.{empty}
 use Rattle.protocol.specs.Servers.{READ, WRITE, END, START, ANSWER, isRequest, Reply, answering, keeping, withoutKey, joining, gathering, read, write, end, start, serve, mayAnswer}
-use Rattle.protocol.specs.Clients.{number}
 use Rattle.protocol.specs.Worlds.{World, view, server, client, message, newest, member, present, room, withServer, send}
 use Rattle.protocol.specs.Steps.{After, moved, answer, answers, deliver, fault, source?, lie}
 use Rattle.protocol.specs.Laws.Tests.{and-left, and-right, and-both, or-cases, by-test, clash, within-true, went}

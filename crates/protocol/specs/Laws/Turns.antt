@@ -6,22 +6,21 @@ use native.Mathlib.Omega.{arith}
 use mathlib.Core.Bool.{Bool, true, false, not, _&&_, _||_}
 use mathlib.Core.Path.{_≡_, refl, sym, ap, _∙_, subst}
 use mathlib.Core.Logic.{_⊎_, inl, inr, _≢_}
-use mathlib.Core.List.{List}
 use lib.ListN.{length, List·getD-eq-default}
 use lib.Dec.{eqb}
 use borrow.Author.Tests.{ltb-true, eqb-true}
 use Rattle.protocol.specs.Types.{ViewNumber, Entry, View, Phase, Idle, Reading, Writing, Client, Administrator, Ending, Settled, EndSent, Message, Step}
-use Rattle.protocol.specs.Tools.{if, within, nth, Result, refused, done, guard, passed}
-use Rattle.protocol.specs.Sizes.{clients, servers, views, messages, sized, readSize, writeSize}
+use Rattle.protocol.specs.Tools.{if, nth, Result, refused, done, guard, passed}
+use Rattle.protocol.specs.Sizes.{clients, views, messages, sized, readSize, writeSize}
 use Rattle.protocol.specs.Entries.{entry, empty, chosen}
 use Rattle.protocol.specs.Servers.{READ, WRITE, END, START, ANSWER}
 use Rattle.protocol.specs.Clients.{WRITES, READS, number, isIdle, requestOf, begin, closeSize, toWrite, Close, closeBy, close, isEnding, endOf, call, advance}
 use Rattle.protocol.specs.Worlds.{World, noClient, view, server, client, message, newest, present, room, withClient, withView, withMessage, withAdministrator, send, nextNumber}
 use Rattle.protocol.specs.Chains.{enough, shown}
-use Rattle.protocol.specs.Steps.{After, moved, request, begins, link, open?, takenWith, closes, starts, takes, take, newView, deliver, fault, lie, fieldsFit, writeStep, readStep, deliverStep, takeStep, faultStep, falseStep, viewStep, uses, viewAsked, step}
-use Rattle.protocol.specs.Laws.Tests.{and-left, and-right, or-cases, clash, within-true, went}
+use Rattle.protocol.specs.Steps.{After, moved, request, begins, link, open?, takenWith, closes, starts, takes, take, newView, fieldsFit, writeStep, readStep, deliverStep, takeStep, faultStep, falseStep, viewStep, uses, viewAsked, step}
+use Rattle.protocol.specs.Laws.Tests.{and-left, and-right, or-cases, clash, went}
 use Rattle.protocol.specs.Laws.Worlds.{content, sent, sent-link, client-same, client-other, view-same, view-other, length-replace}
-use Rattle.protocol.specs.Laws.Change.{Votes, To, Chosen, Started, Closed, Kept, Acted, same, began, wrote, ended, New, none as unsent}
+use Rattle.protocol.specs.Laws.Change.{Votes, To, Chosen, Started, Closed, Kept, Acted, same, began, wrote, ended, none as unsent}
 use Rattle.protocol.specs.Laws.Sound.{Sized, Sound, mail-same, mail-link, sized-same, sound-send, Taking, close-votes, close-chosen, link-count}
 use Rattle.protocol.specs.Laws.Kinds.{IsClient, client-of, server-of, by-kind}
 use Rattle.protocol.specs.Laws.Moves.{done-is, apart, is-done, grew-refl, Post, post, posted, quiet, idle-acted, room-left, present-is, Lawful, fault-lawful, deliver-lawful, lie-lawful}

@@ -1,6 +1,6 @@
 use mathlib.Core.Path.{_≡_, ap, sym, _∙_}
 use mathlib.Core.Bool.{true}
-use Prim.Native.Nat.{ℕ, _-_, _≤_}
+use Prim.Native.Nat.{_-_, _≤_}
 use native.Mathlib.Omega.{arith}
 use Rattle.codec.specs.Bytes.{zeros, zeros-none, zeros-more, zeros-fail}
 use Rattle.codec.proofs.bytes.are_zero.Statement.{statement}
@@ -43,14 +43,4 @@ returns-2 c =
 pub are-zero-spec : {M : Type 1} → statement M
 are-zero-spec =
     tie.close
-    (tie.spec
-    Inv-loop
-    μ-loop
-    loop-holds
-    add-if1
-    shared-slice-read-if1
-    returns
-    add-i
-    loop-less
-    loop-again
-    returns-2)
+    (tie.spec Inv-loop μ-loop loop-holds add-if1 shared-slice-read-if1 returns add-i loop-less loop-again returns-2)

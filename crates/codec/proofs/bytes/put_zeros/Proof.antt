@@ -55,14 +55,4 @@ returns c =
 pub put-zeros-spec : {M : Type 1} → statement M
 put-zeros-spec =
     tie.close
-    (tie.spec
-    Inv-loop
-    μ-loop
-    loop-holds
-    add-image
-    slice-write-image
-    add-i
-    loop-less
-    loop-again
-    same-length
-    returns)
+    (tie.spec Inv-loop μ-loop loop-holds add-image slice-write-image add-i loop-less loop-again same-length returns)

@@ -28,11 +28,4 @@ returns c = c .before .before .write-view .ensures
 pub store-view-spec : {M : Type 1} → statement M
 store-view-spec =
     tie.close
-    (tie.spec
-    cast-write-view
-    sub-write-view
-    mul-write-view
-    add-write-view
-    write-view-requires
-    same-length
-    returns)
+    (tie.spec cast-write-view sub-write-view mul-write-view add-write-view write-view-requires same-length returns)

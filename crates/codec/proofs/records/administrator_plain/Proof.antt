@@ -1,4 +1,4 @@
-use borrow.Author.Tests.{eq-eqb, ne-eqb, le-leb, lt-leb, not-true, not-false}
+use borrow.Author.Tests.{le-leb, lt-leb}
 use Rattle.codec.specs.Records.{administratorPlain}
 use borrow.Author.Needs.{needs}
 use Rattle.codec.proofs.records.administrator_plain.Statement.{statement}
@@ -27,10 +27,4 @@ returns-2 c = simp (le-leb _ _ (c .before .before .before .if1 .left), c .before
 pub administrator-plain-spec : {M : Type 1} → statement M
 administrator-plain-spec =
     tie.close
-    (tie.spec
-    shared-slice-read-if1
-    returns
-    get16-requires
-    shared-slice-read-untagged-zero
-    untagged-zero-requires
-    returns-2)
+    (tie.spec shared-slice-read-if1 returns get16-requires shared-slice-read-untagged-zero untagged-zero-requires returns-2)

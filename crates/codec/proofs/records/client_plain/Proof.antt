@@ -50,16 +50,5 @@ returns-3 c = rw (le-leb _ _ (c .before .before .before .before .before .before 
 pub client-plain-spec : {M : Type 1} → statement M
 client-plain-spec =
     tie.close
-    (tie.spec
-    shared-slice-read-if1
-    returns
-    get16-requires
-    shared-slice-read-untagged-zero
-    untagged-zero-requires
-    returns-2
-    add-entry-plain
-    sub-entry-plain
-    part-entry-plain-start
-    part-entry-plain-end
-    entry-plain-requires
-    returns-3)
+    (tie.spec shared-slice-read-if1 returns get16-requires shared-slice-read-untagged-zero untagged-zero-requires returns-2 add-entry-plain
+    sub-entry-plain part-entry-plain-start part-entry-plain-end entry-plain-requires returns-3)

@@ -42,14 +42,5 @@ returns-3 c = rw (eq-eqb _ _ (sym (c .before .before .before .before .before .ge
 pub header-plain-spec : {M : Type 1} → statement M
 header-plain-spec =
     tie.close
-    (tie.spec
-    get16-requires
-    returns
-    add-administrator-plain
-    sub-administrator-plain
-    part-administrator-plain-start
-    part-administrator-plain-end
-    administrator-plain-requires
-    returns-2
-    are-zero-requires
-    returns-3)
+    (tie.spec get16-requires returns add-administrator-plain sub-administrator-plain part-administrator-plain-start part-administrator-plain-end
+    administrator-plain-requires returns-2 are-zero-requires returns-3)

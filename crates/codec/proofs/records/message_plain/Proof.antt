@@ -34,12 +34,4 @@ returns-2 c = rw (le-leb _ _ (c .before .before .if1 .left)) (c .entry-plain .en
 pub message-plain-spec : {M : Type 1} → statement M
 message-plain-spec =
     tie.close
-    (tie.spec
-    shared-slice-read-if1
-    returns
-    add-entry-plain
-    sub-entry-plain
-    part-entry-plain-start
-    part-entry-plain-end
-    entry-plain-requires
-    returns-2)
+    (tie.spec shared-slice-read-if1 returns add-entry-plain sub-entry-plain part-entry-plain-start part-entry-plain-end entry-plain-requires returns-2)

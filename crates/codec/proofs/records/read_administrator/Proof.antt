@@ -22,9 +22,4 @@ returns c = rw (c .before .ending-of .ensures, c .before .before .before .get16 
 pub read-administrator-spec : {M : Type 1} → statement M
 read-administrator-spec =
     tie.close
-    (tie.spec
-    get16-requires
-    shared-slice-read-ending-of
-    ending-of-requires
-    shared-slice-read-t5
-    returns)
+    (tie.spec get16-requires shared-slice-read-ending-of ending-of-requires shared-slice-read-t5 returns)

@@ -38,14 +38,5 @@ returns c = rw (c .before .read-entry .ensures, c .before .before .before .phase
 pub read-client-spec : {M : Type 1} → statement M
 read-client-spec =
     tie.close
-    (tie.spec
-    get16-requires
-    shared-slice-read-phase-of
-    phase-of-requires
-    add-read-entry
-    sub-read-entry
-    part-read-entry-start
-    part-read-entry-end
-    read-entry-requires
-    shared-slice-read-t6
-    returns)
+    (tie.spec get16-requires shared-slice-read-phase-of phase-of-requires add-read-entry sub-read-entry part-read-entry-start part-read-entry-end
+    read-entry-requires shared-slice-read-t6 returns)

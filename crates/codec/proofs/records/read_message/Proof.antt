@@ -44,16 +44,5 @@ returns c = rw (c .before .before .before .before .read-entry .ensures, c .befor
 pub read-message-spec : {M : Type 1} → statement M
 read-message-spec =
     tie.close
-    (tie.spec
-    get16-requires
-    get16-requires-2
-    add-read-entry
-    sub-read-entry
-    part-read-entry-start
-    part-read-entry-end
-    read-entry-requires
-    shared-slice-read-taken
-    shared-slice-read-t12
-    shared-slice-read-t15
-    shared-slice-read-t17
-    returns)
+    (tie.spec get16-requires get16-requires-2 add-read-entry sub-read-entry part-read-entry-start part-read-entry-end read-entry-requires
+    shared-slice-read-taken shared-slice-read-t12 shared-slice-read-t15 shared-slice-read-t17 returns)

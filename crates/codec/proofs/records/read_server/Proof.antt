@@ -35,13 +35,5 @@ returns c = rw (c .before .before .read-entry .ensures, c .before .before .befor
 pub read-server-spec : {M : Type 1} → statement M
 read-server-spec =
     tie.close
-    (tie.spec
-    get32-requires
-    add-read-entry
-    sub-read-entry
-    part-read-entry-start
-    part-read-entry-end
-    read-entry-requires
-    shared-slice-read-faulty
-    shared-slice-read-t11
-    returns)
+    (tie.spec get32-requires add-read-entry sub-read-entry part-read-entry-start part-read-entry-end read-entry-requires shared-slice-read-faulty
+    shared-slice-read-t11 returns)

@@ -31,12 +31,4 @@ returns c = rw (c .before .before .before .before .get32 .ensures, c .before .be
 pub read-step-spec : {M : Type 1} → statement M
 read-step-spec =
     tie.close
-    (tie.spec
-    get16-requires
-    get16-requires-2
-    get32-requires
-    shared-slice-read-t6
-    shared-slice-read-t8
-    shared-slice-read-t10
-    shared-slice-read-t13
-    returns)
+    (tie.spec get16-requires get16-requires-2 get32-requires shared-slice-read-t6 shared-slice-read-t8 shared-slice-read-t10 shared-slice-read-t13 returns)

@@ -42,14 +42,5 @@ returns-3 c = rw (le-leb _ _ (c .before .before .before .before .if1 .left), sym
 pub server-plain-spec : {M : Type 1} → statement M
 server-plain-spec =
     tie.close
-    (tie.spec
-    shared-slice-read-if1
-    returns
-    are-zero-requires
-    returns-2
-    add-entry-plain
-    sub-entry-plain
-    part-entry-plain-start
-    part-entry-plain-end
-    entry-plain-requires
-    returns-3)
+    (tie.spec shared-slice-read-if1 returns are-zero-requires returns-2 add-entry-plain sub-entry-plain part-entry-plain-start part-entry-plain-end
+    entry-plain-requires returns-3)

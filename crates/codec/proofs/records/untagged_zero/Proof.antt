@@ -1,4 +1,4 @@
-use borrow.Author.Tests.{eq-eqb, ne-eqb, le-leb, lt-leb, not-true, not-false}
+use borrow.Author.Tests.{eq-eqb, ne-eqb}
 use Rattle.codec.proofs.records.untagged_zero.Statement.{statement}
 use Rattle.codec.proofs.records.untagged_zero.Tie as tie
 

@@ -46,14 +46,4 @@ returns c =
 pub write-administrator-spec : {M : Type 1} → statement M
 write-administrator-spec =
     tie.close
-    (tie.spec
-    ending-number-requires
-    add-put8
-    put8-requires
-    add-put8-2
-    ending-tag-requires
-    put8-requires-2
-    add-put16
-    put16-requires
-    same-length
-    returns)
+    (tie.spec ending-number-requires add-put8 put8-requires add-put8-2 ending-tag-requires put8-requires-2 add-put16 put16-requires same-length returns)

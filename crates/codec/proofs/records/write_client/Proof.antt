@@ -49,16 +49,5 @@ returns c =
 pub write-client-spec : {M : Type 1} → statement M
 write-client-spec =
     tie.close
-    (tie.spec
-    phase-request-requires
-    add-put8
-    phase-tag-requires
-    put8-requires
-    add-put8-2
-    put8-requires-2
-    add-put16
-    put16-requires
-    add-write-entry
-    write-entry-requires
-    same-length
-    returns)
+    (tie.spec phase-request-requires add-put8 phase-tag-requires put8-requires add-put8-2 put8-requires-2 add-put16 put16-requires add-write-entry
+    write-entry-requires same-length returns)

@@ -48,16 +48,5 @@ returns c =
 pub write-entry-spec : {M : Type 1} → statement M
 write-entry-spec =
     tie.close
-    (tie.spec
-    add-put32
-    put32-requires
-    add-put8
-    put8-requires
-    add-put-zeros
-    put-zeros-requires
-    add-put32-2
-    put32-requires-2
-    add-put-zeros-2
-    put-zeros-requires-2
-    same-length
-    returns)
+    (tie.spec add-put32 put32-requires add-put8 put8-requires add-put-zeros put-zeros-requires add-put32-2 put32-requires-2 add-put-zeros-2
+    put-zeros-requires-2 same-length returns)

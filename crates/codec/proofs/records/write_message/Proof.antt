@@ -63,21 +63,5 @@ returns c =
 pub write-message-spec : {M : Type 1} → statement M
 write-message-spec =
     tie.close
-    (tie.spec
-    add-entry-at
-    add-put8
-    put8-requires
-    add-put8-2
-    put8-requires-2
-    add-put8-3
-    put8-requires-3
-    add-put8-4
-    cast-put8
-    put8-requires-4
-    add-put16
-    put16-requires
-    add-put16-2
-    put16-requires-2
-    write-entry-requires
-    same-length
-    returns)
+    (tie.spec add-entry-at add-put8 put8-requires add-put8-2 put8-requires-2 add-put8-3 put8-requires-3 add-put8-4 cast-put8 put8-requires-4 add-put16
+    put16-requires add-put16-2 put16-requires-2 write-entry-requires same-length returns)

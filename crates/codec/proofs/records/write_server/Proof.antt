@@ -51,17 +51,5 @@ returns c =
 pub write-server-spec : {M : Type 1} → statement M
 write-server-spec =
     tie.close
-    (tie.spec
-    add-put8
-    put8-requires
-    add-put8-2
-    cast-put8
-    put8-requires-2
-    add-put-zeros
-    put-zeros-requires
-    add-put32
-    put32-requires
-    add-write-entry
-    write-entry-requires
-    same-length
-    returns)
+    (tie.spec add-put8 put8-requires add-put8-2 cast-put8 put8-requires-2 add-put-zeros put-zeros-requires add-put32 put32-requires add-write-entry
+    write-entry-requires same-length returns)

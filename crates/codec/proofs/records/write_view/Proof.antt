@@ -36,12 +36,4 @@ returns c =
 pub write-view-spec : {M : Type 1} → statement M
 write-view-spec =
     tie.close
-    (tie.spec
-    add-put32
-    put32-requires
-    add-put8
-    put8-requires
-    add-put-zeros
-    put-zeros-requires
-    same-length
-    returns)
+    (tie.spec add-put32 put32-requires add-put8 put8-requires add-put-zeros put-zeros-requires same-length returns)

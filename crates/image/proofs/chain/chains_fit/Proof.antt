@@ -4,11 +4,9 @@ use mathlib.Core.Logic.{⊎-elim}
 use Prim.Native.Nat.{_+_, _*_, _-_, _≤_}
 use native.Mathlib.Omega.{arith}
 use borrow.Author.Needs.{needs}
-use Rattle.protocol.specs.Tools.{pass}
+use Rattle.protocol.specs.Tools.{pass, sumTo, countTo, allTo}
 use Rattle.codec.specs.Images.{decode}
-use Rattle.protocol.specs.Tools.{sumTo}
 use Rattle.image.specs.Scan.{open-used, chains-rule}
-use Rattle.protocol.specs.Tools.{countTo, allTo}
 use Rattle.protocol.specs.Laws.Tests.{count-le}
 use Rattle.image.specs.Loops.{all-start, all-more, all-fails, count-start, count-more, sum-start, sum-more}
 use Rattle.image.specs.Walks.{followed, chained-links, whole, broken, no-chain, links-most}

@@ -30,11 +30,4 @@ returns c =
 pub store-fresh-spec : {M : Type 1} → statement M
 store-fresh-spec =
     tie.close
-    (tie.spec
-    clear-requires
-    put16-requires
-    store-administrator-requires
-    store-view-requires
-    store-servers-requires
-    same-length
-    returns)
+    (tie.spec clear-requires put16-requires store-administrator-requires store-view-requires store-servers-requires same-length returns)

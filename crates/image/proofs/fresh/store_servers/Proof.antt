@@ -57,15 +57,4 @@ returns c =
 pub store-servers-spec : {M : Type 1} → statement M
 store-servers-spec =
     tie.close
-    (tie.spec
-    Inv-loop
-    μ-loop
-    loop-holds
-    add-t7
-    fresh-server-requires
-    store-server-requires
-    add-k
-    loop-less
-    loop-again
-    same-length
-    returns)
+    (tie.spec Inv-loop μ-loop loop-holds add-t7 fresh-server-requires store-server-requires add-k loop-less loop-again same-length returns)

@@ -58,14 +58,4 @@ returns c =
 pub bad-servers-spec : {M : Type 1} → statement M
 bad-servers-spec =
     tie.close
-    (tie.spec
-    Inv-loop
-    μ-loop
-    loop-holds
-    add-t7
-    bad-server-requires
-    add-n
-    add-k
-    loop-less
-    loop-again
-    returns)
+    (tie.spec Inv-loop μ-loop loop-holds add-t7 bad-server-requires add-n add-k loop-less loop-again returns)

@@ -55,15 +55,5 @@ returns-2 c =
 pub client-ok-spec : {M : Type 1} → statement M
 client-ok-spec =
     tie.close
-    (tie.spec
-    sub-at
-    mul-at
-    add-at
-    add-client-plain
-    sub-client-plain
-    part-client-plain-start
-    part-client-plain-end
-    client-plain-requires
-    returns
-    client-fits-requires
-    returns-2)
+    (tie.spec sub-at mul-at add-at add-client-plain sub-client-plain part-client-plain-start part-client-plain-end client-plain-requires returns
+    client-fits-requires returns-2)

@@ -49,14 +49,4 @@ returns-2 c =
 pub clients-ok-spec : {M : Type 1} → statement M
 clients-ok-spec =
     tie.close
-    (tie.spec
-    Inv-loop
-    μ-loop
-    loop-holds
-    add-client-ok
-    client-ok-requires
-    returns
-    add-k
-    loop-less
-    loop-again
-    returns-2)
+    (tie.spec Inv-loop μ-loop loop-holds add-client-ok client-ok-requires returns add-k loop-less loop-again returns-2)

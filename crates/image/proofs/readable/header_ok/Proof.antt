@@ -41,11 +41,4 @@ returns-2 c =
 pub header-ok-spec : {M : Type 1} → statement M
 header-ok-spec =
     tie.close
-    (tie.spec
-    sub-header-plain
-    part-header-plain-start
-    part-header-plain-end
-    header-plain-requires
-    returns
-    header-fits-requires
-    returns-2)
+    (tie.spec sub-header-plain part-header-plain-start part-header-plain-end header-plain-requires returns header-fits-requires returns-2)

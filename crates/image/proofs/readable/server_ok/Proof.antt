@@ -65,17 +65,5 @@ returns-2 c =
 pub server-ok-spec : {M : Type 1} → statement M
 server-ok-spec =
     tie.close
-    (tie.spec
-    cast-at
-    sub-at
-    mul-at
-    add-at
-    add-server-plain
-    sub-server-plain
-    part-server-plain-start
-    part-server-plain-end
-    server-plain-requires
-    returns
-    load-server-requires
-    server-fits-requires
-    returns-2)
+    (tie.spec cast-at sub-at mul-at add-at add-server-plain sub-server-plain part-server-plain-start part-server-plain-end server-plain-requires returns
+    load-server-requires server-fits-requires returns-2)

@@ -52,14 +52,4 @@ returns-2 c =
 pub servers-ok-spec : {M : Type 1} → statement M
 servers-ok-spec =
     tie.close
-    (tie.spec
-    Inv-loop
-    μ-loop
-    loop-holds
-    add-t5
-    server-ok-requires
-    returns
-    add-k
-    loop-less
-    loop-again
-    returns-2)
+    (tie.spec Inv-loop μ-loop loop-holds add-t5 server-ok-requires returns add-k loop-less loop-again returns-2)

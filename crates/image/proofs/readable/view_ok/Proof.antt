@@ -62,17 +62,5 @@ returns-2 c =
 pub view-ok-spec : {M : Type 1} → statement M
 view-ok-spec =
     tie.close
-    (tie.spec
-    cast-at
-    sub-at
-    mul-at
-    add-at
-    add-view-plain
-    sub-view-plain
-    part-view-plain-start
-    part-view-plain-end
-    view-plain-requires
-    returns
-    load-view-requires
-    view-fits-requires
-    returns-2)
+    (tie.spec cast-at sub-at mul-at add-at add-view-plain sub-view-plain part-view-plain-start part-view-plain-end view-plain-requires returns
+    load-view-requires view-fits-requires returns-2)

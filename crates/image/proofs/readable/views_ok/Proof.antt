@@ -57,15 +57,4 @@ returns-2 c =
 pub views-ok-spec : {M : Type 1} → statement M
 views-ok-spec =
     tie.close
-    (tie.spec
-    Inv-loop
-    μ-loop
-    last-of-requires
-    loop-holds
-    add-t6
-    view-ok-requires
-    returns
-    add-k
-    loop-less
-    loop-again
-    returns-2)
+    (tie.spec Inv-loop μ-loop last-of-requires loop-holds add-t6 view-ok-requires returns add-k loop-less loop-again returns-2)

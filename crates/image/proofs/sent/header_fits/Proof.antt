@@ -36,11 +36,4 @@ returns-3 c =
 pub header-fits-spec : {M : Type 1} → statement M
 header-fits-spec =
     tie.close
-    (tie.spec
-    load-used-requires
-    load-administrator-requires
-    returns
-    view-within-requires
-    returns-2
-    ending-fits-requires
-    returns-3)
+    (tie.spec load-used-requires load-administrator-requires returns view-within-requires returns-2 ending-fits-requires returns-3)

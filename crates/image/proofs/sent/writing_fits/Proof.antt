@@ -41,11 +41,4 @@ returns-3 c =
 pub writing-fits-spec : {M : Type 1} → statement M
 writing-fits-spec =
     tie.close
-    (tie.spec
-    kind-fits-requires
-    returns
-    is-sent-requires
-    returns-2
-    load-message-requires
-    same-requires
-    returns-3)
+    (tie.spec kind-fits-requires returns is-sent-requires returns-2 load-message-requires same-requires returns-3)
