@@ -1,6 +1,6 @@
 -- What a walk along taken answers gathers, and that it is what the answers say. Assumes nothing.
 use Prim.Native.Nat.{ℕ, _≤_, _<_}
-use mathlib.Core.Bool.{Bool, true, false, not, _||_, _&&_, or-false}
+use mathlib.Core.Bool.{Bool, true, false, _||_, _&&_, or-false}
 use mathlib.Core.Option.{Option, none, some}
 use mathlib.Core.Path.{_≡_, refl, sym, ap, ap₂, _∙_}
 use mathlib.Core.List.{List, [], _∷_}
@@ -10,10 +10,9 @@ use lib.Bits.{bitOr}
 use Rattle.values.specs.declared.tally.Tally.{Tally}
 use Rattle.protocol.specs.declared.Entry.{Entry}
 use Rattle.protocol.specs.declared.Message.{Message}
-use Rattle.protocol.specs.declared.ServerSet.{ServerSet}
 use Rattle.protocol.specs.Tools.{if, countTo, any, holds}
 use Rattle.protocol.specs.Sizes.{servers}
-use Rattle.protocol.specs.Entries.{below, larger, largest, chosen}
+use Rattle.protocol.specs.Entries.{larger, largest, chosen}
 use Rattle.protocol.specs.Worlds.{World, message}
 use Rattle.protocol.specs.Chains.{tagged, heard, enough, shown}
 use Rattle.protocol.specs.Laws.Bits.{holds-or}
@@ -27,24 +26,6 @@ firstAnswer m = record { seen = record { 0 = bitIn (m .sender) }; best = m .entr
 unfoldable pub addAnswer : Tally → ℕ → Message → Tally
 addAnswer a t m =
     if (eqb (m .view .0) t) (record { seen = record { 0 = bitOr (a .seen .0) (bitIn (m .sender)) }; best = larger (m .entry) (a .best) }) a
-
--- its two parts: the servers heard then, and whether its entry is the one to choose then
-unfoldable pub seenWith : ServerSet → ℕ → Message → ServerSet
-seenWith seen t m = if (eqb (m .view .0) t) (record { 0 = bitOr (seen .0) (bitIn (m .sender)) }) seen
-
-unfoldable pub replaces : Entry → ℕ → Message → Bool
-replaces had t m = eqb (m .view .0) t && not (below (m .entry) had)
-
-pub answer-parts : (a : Tally) (t : ℕ) (m : Message) → addAnswer a t m ≡ record { seen = seenWith (a .seen) t m; best = if (replaces (a .best) t m) (m .entry) (a .best) }
-unfolding addAnswer seenWith replaces larger
-answer-parts a t m = go (eqb (m .view .0) t) (below (m .entry) (a .best))
-  where
-    go : (b c : Bool)
-        → if b (record { seen = record { 0 = bitOr (a .seen .0) (bitIn (m .sender)) }; best = if c (a .best) (m .entry) }) a
-        ≡ record { seen = if b (record { 0 = bitOr (a .seen .0) (bitIn (m .sender)) }) (a .seen); best = if (b && not c) (m .entry) (a .best) }
-    go true true = refl
-    go true false = refl
-    go false c = refl
 
 -- the entry chosen, where the answers come from enough different servers
 unfoldable pub closesAt : Tally → ℕ → Option Entry

@@ -9,37 +9,12 @@ use protocol::Taken;
 use protocol::ViewNumber;
 ghost use mathlib.Core.Path.{_≡_};
 ghost use Rattle.protocol.specs.Clients.{taken};
-ghost use Rattle.values.specs.Tallies.{firstAnswer, addAnswer, seenWith, replaces, closesAt};
+ghost use Rattle.values.specs.Tallies.{firstAnswer, addAnswer, closesAt};
 
 // The servers heard, and the largest entry that they showed.
 pub struct Tally {
     pub seen: ServerSet,
     pub best: Entry,
-}
-
-// The servers heard with one older answer more, of a tally of view t: of another view it changes nothing.
-pub fn seen_with(seen: ServerSet, t: ViewNumber, m: Message) -> ServerSet
-    ensures { λ r. ⌜ r ≡ seenWith seen (t .0) m ⌝ }
-{
-    let view = m.view;
-    if view.0 != t.0 {
-        return seen;
-    }
-    sets::with_server(seen, ServerNumber(m.sender))
-}
-
-// Whether one older answer more shows the entry to choose, had being the largest before it: of another view it does not, and of two
-// equal stamps the older is chosen.
-pub fn replaces(had: Entry, t: ViewNumber, m: Message) -> bool
-    ensures { λ r. ⌜ r ≡ replaces had (t .0) m ⌝ }
-{
-    let view = m.view;
-    if view.0 != t.0 {
-        return false;
-    }
-    let shown = m.entry;
-    let smaller = entries::below(shown, had);
-    !smaller
 }
 
 // The tally of one answer, the one just taken.
@@ -54,23 +29,22 @@ pub fn first_answer(m: Message) -> Tally
     }
 }
 
-// One older answer more to a tally of view t, for a host that keeps the answers in a list of its own.
+// One older answer more to a tally of view t: of another view it changes nothing, and of two equal stamps the older stays.
 pub fn add_answer(a: Tally, t: ViewNumber, m: Message) -> Tally
     ensures { λ r. ⌜ r ≡ addAnswer a (t .0) m ⌝ }
 {
-    let had = a.best;
-    let heard = a.seen;
-    let shown = m.entry;
-    let seen = seen_with(heard, t, m);
-    if replaces(had, t, m) {
-        return Tally {
-            seen: seen,
-            best: shown,
-        };
+    let view = m.view;
+    if view.0 != t.0 {
+        return a;
     }
+    let shown = m.entry;
+    let had = a.best;
+    let best = entries::larger(shown, had);
+    let heard = a.seen;
+    let seen = sets::with_server(heard, ServerNumber(m.sender));
     Tally {
         seen: seen,
-        best: had,
+        best: best,
     }
 }
 

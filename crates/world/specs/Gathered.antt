@@ -1,21 +1,25 @@
--- What a walk along a chain carries, as numbers: the servers heard, and the number of the answer that leads. `Gathers` says which tally
--- a number stands for; `gathers-zero`, `gathers-none` and `gathers-on` are the ways out of the walk, and `gathers-taken` says that the number of a
--- whole chain opens into what closes a phase or leaves it open. The functions of `tally` and `taken_with` rest on them. Assumes nothing.
+-- What a walk along a chain carries, as numbers: the servers heard, and the number of the answer that leads. `Gathers` says which
+-- tally a number stands for; `gathers-zero`, `gathers-none`, `gathers-other` and `gathers-on` are the ways out of the walk, and
+-- `gathers-taken` says that the number of a whole chain opens into what closes a phase or leaves it open. The functions of `tally`
+-- and `taken_with` rest on them. Assumes nothing.
 use Prim.Native.Nat.{ℕ, _/_, _%_, _^_, _-_, _≤_}
 use native.Mathlib.Omega.{arith}
 use mathlib.Core.Bool.{Bool, true, false}
 use mathlib.Core.Option.{Option}
 use mathlib.Core.Path.{_≡_, refl, sym, ap, ap₂, subst, _∙_}
-use mathlib.Core.List.{List, []}
+use mathlib.Core.List.{List}
+use lib.Bits.{bitOr}
+use borrow.Author.Tests.{eq-eqb, ne-eqb}
 use Rattle.values.specs.declared.tally.Tally.{Tally}
 use Rattle.values.specs.Bits.{bitIn}
-use Rattle.values.specs.Tallies.{addAnswer, seenWith, replaces, answer-parts, tallyFrom, firstAnswer, closesAt}
+use Rattle.values.specs.Tallies.{addAnswer, tallyFrom, firstAnswer, closesAt}
 use Rattle.protocol.specs.declared.Entry.{Entry}
 use Rattle.protocol.specs.declared.Message.{Message}
 use Rattle.protocol.specs.declared.MessageNumber.{MessageNumber}
 use Rattle.protocol.specs.declared.ServerSet.{ServerSet}
 use Rattle.protocol.specs.Tools.{if}
 use Rattle.protocol.specs.Sizes.{messages}
+use Rattle.protocol.specs.Entries.{below, larger}
 use Rattle.protocol.specs.Worlds.{World, message}
 use Rattle.protocol.specs.Chains.{follow}
 use Rattle.codec.specs.Places.{messageAt}
@@ -39,9 +43,9 @@ pub record Gathers (w : World) (g : ℕ) (a : Tally) : Type 0 where
   pub low : g / 2 ^ 32 ≤ messages
   pub is : opened w g ≡ a
 
--- the answer that leads once n is met, which is m
-unfoldable pub leading : List ℕ → ℕ → MessageNumber → MessageNumber → Message → MessageNumber
-leading l t best n m = if (replaces (messageAt l (best .0) .entry) t m) n best
+-- the answer that leads once n is met, which is m: "equal stamps: the one taken first", which is the older
+unfoldable pub leading : List ℕ → MessageNumber → MessageNumber → Message → MessageNumber
+leading l best n m = if (below (m .entry) (messageAt l (best .0) .entry)) best n
 
 -- ---- the ways out of a walk
 
@@ -60,35 +64,46 @@ module _ {l : List ℕ} {left : ℕ} {n : MessageNumber} (h : Walk l left (n .0)
   abbrev w : World
   w = decode l
 
-  -- what is carried on is the tally with one answer more
-  added : (t : ℕ) (seen : ServerSet) (best : MessageNumber) → best .0 ≤ messages → tallied w (seenWith seen t m) (leading l t best n m) ≡ addAnswer (tallied w seen best) t m
-  unfolding tallied leading
-  added t seen best k =
+  -- an answer of view t is added to what is carried on
+  added : (t : ℕ) (seen : ServerSet) (best : MessageNumber) → best .0 ≤ messages → m .view .0 ≡ t
+      → tallied w (record { 0 = bitOr (seen .0) (bitIn (m .sender)) }) (leading l best n m) ≡ addAnswer (tallied w seen best) t m
+  unfolding tallied leading addAnswer larger
+  added t seen best k v =
       let had : messageAt l (best .0) ≡ message w (best .0) = message-is (h .legible) (best .0) k in
       let met : m ≡ message w (n .0) = e ∙ message-is (h .legible) (n .0) (walk-low h b d) in
-      ap (λ (x : Message). tallied w (seenWith seen t m) (if (replaces (x .entry) t m) n best)) had
-      ∙ go (replaces (message w (best .0) .entry) t m) met
-      ∙ sym (answer-parts (tallied w seen best) t m)
+      rw (eq-eqb (m .view .0) t v, had) (go (below (m .entry) (message w (best .0) .entry)) met)
     where
-      go : (c : Bool) → m ≡ message w (n .0) → tallied w (seenWith seen t m) (if c n best) ≡ record { seen = seenWith seen t m; best = if c (m .entry) (message w (best .0) .entry) }
-      go true q = ap (λ (x : Message). record { seen = seenWith seen t m; best = x .entry }) (sym q)
-      go false q = refl
+      go : (c : Bool) → m ≡ message w (n .0)
+          → _≡_ {A = Tally} (record { seen = record { 0 = bitOr (seen .0) (bitIn (m .sender)) }; best = message w ((if c best n) .0) .entry })
+          (record { seen = record { 0 = bitOr (seen .0) (bitIn (m .sender)) }; best = if c (message w (best .0) .entry) (m .entry) })
+      go true q = refl
+      go false q = ap (λ (x : Message). record { seen = record { 0 = bitOr (seen .0) (bitIn (m .sender)) }; best = x .entry }) (sym q)
 
-  pub leads-low : (t : ℕ) (best : MessageNumber) → best .0 ≤ messages → (x : MessageNumber) → x ≡ leading l t best n m → x .0 ≤ messages
+  -- one of another view is not
+  kept : (t : ℕ) (a : Tally) → (m .view .0 ≡ t → ⊥) → a ≡ addAnswer a t m
+  unfolding addAnswer
+  kept t a v = rw (ne-eqb (m .view .0) t v)
+
+  pub leads-low : (best : MessageNumber) → best .0 ≤ messages → (x : MessageNumber) → x ≡ leading l best n m → x .0 ≤ messages
   unfolding leading
-  leads-low t best k x e = subst (λ (y : MessageNumber). y .0 ≤ messages) (sym e) (go (replaces (messageAt l (best .0) .entry) t m) (walk-low h b d))
+  leads-low best k x e = subst (λ (y : MessageNumber). y .0 ≤ messages) (sym e) (go (below (m .entry) (messageAt l (best .0) .entry)) (walk-low h b d))
     where
-      go : (c : Bool) → n .0 ≤ messages → (if c n best) .0 ≤ messages
-      go true q = q
-      go false q = k
+      go : (c : Bool) → n .0 ≤ messages → (if c best n) .0 ≤ messages
+      go true q = k
+      go false q = q
 
-  pub gathers-on : (t g : ℕ) (seen : ServerSet) (best : MessageNumber) → best .0 ≤ messages → (s : ServerSet) → s ≡ seenWith seen t m → (x : MessageNumber) → x ≡ leading l t best n m
-      → Gathers w g (tallyOn w t s x (left - 1) (m .next .0)) → Gathers w g (tallyOn w t seen best left (n .0))
-  gathers-on t g seen best k s p x q r =
-      record {
-        low = r .low;
-        is = tally-on h b d m e t (tallied w seen best) (tallied w s x) (opened w g) (ap₂ (tallied w) p q ∙ added t seen best k) (r .is);
-      }
+  module _ (t g : ℕ) (seen : ServerSet) (best : MessageNumber) where
+    pub gathers-other : (m .view .0 ≡ t → ⊥) → Gathers w g (tallyOn w t seen best (left - 1) (m .next .0)) → Gathers w g (tallyOn w t seen best left (n .0))
+    gathers-other v r =
+        record { low = r .low; is = tally-on h b d m e t (tallied w seen best) (tallied w seen best) (opened w g) (kept t (tallied w seen best) v) (r .is) }
+
+    pub gathers-on : best .0 ≤ messages → m .view .0 ≡ t → (s : ServerSet) → s ≡ record { 0 = bitOr (seen .0) (bitIn (m .sender)) } → (x : MessageNumber) → x ≡ leading l best n m
+        → Gathers w g (tallyOn w t s x (left - 1) (m .next .0)) → Gathers w g (tallyOn w t seen best left (n .0))
+    gathers-on k v s p x q r =
+        record {
+          low = r .low;
+          is = tally-on h b d m e t (tallied w seen best) (tallied w s x) (opened w g) (ap₂ (tallied w) p q ∙ added t seen best k v) (r .is);
+        }
 
 -- ---- a whole chain
 

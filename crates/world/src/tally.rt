@@ -10,11 +10,12 @@ ghost use Rattle.world.specs.Gathered.{leading, tallyOn, opened as opene
 use codec::places::load_message;
 use protocol::Message;
 use protocol::MessageNumber;
+use protocol::ServerNumber;
 use protocol::ServerSet;
 use protocol::ViewNumber;
+use values::entries::below;
+use values::sets::with_server;
 use values::tally::Tally;
-use values::tally::replaces;
-use values::tally::seen_with;
 
 // A set of servers is below this number; the number of an answer stands above it.
 const ABOVE: u64 = 4294967296;
@@ -28,29 +29,24 @@ fn gathered(seen: ServerSet, best: MessageNumber) -> u64
     (servers as u64) + ABOVE * (answer as u64)
 }
 
-// The answer that leads once n is met, which is m; best led before.
-fn leader(
-    image: &[u8],
-    t: ViewNumber,
-    best: MessageNumber,
-    n: MessageNumber,
-    m: Message,
-) -> MessageNumber
+// The answer that leads once n is met, which is m; best led before. "equal stamps: the one taken first", which is the older.
+fn leader(image: &[u8], best: MessageNumber, n: MessageNumber, m: Message) -> MessageNumber
     requires { ⌜ (length (now image) ≡ imageSize) × (best .0 ≤ messages) ⌝ }
-    ensures { λ r. ⌜ r ≡ leading (now (image .entry)) (t .0) best n m ⌝ }
+    ensures { λ r. ⌜ r ≡ leading (now (image .entry)) best n m ⌝ }
 {
     let b = load_message(image, best);
     let had = b.entry;
-    let later = replaces(had, t, m);
-    if later {
-        return n;
+    let shown = m.entry;
+    let smaller = below(shown, had);
+    if smaller {
+        return best;
     }
-    best
+    n
 }
 
 // "From a request the links are followed until zero": the tally of view t from message n on, with the links still allowed; of the
-// answers before it, seen are the servers and best is the one that leads. All that it carries and answers is numbers, which stay
-// in registers.
+// answers before it, seen are the servers and best is the one that leads. An answer of another view changes nothing. All that it
+// carries and answers is numbers, which stay in registers.
 pub fn gather(
     image: &[u8],
     t: ViewNumber,
@@ -70,8 +66,12 @@ pub fn gather(
     }
     let m = load_message(image, n);
     let next = m.next;
-    let heard = seen_with(seen, t, m);
-    let leads = leader(image, t, best, n, m);
+    let view = m.view;
+    if view.0 != t.0 {
+        return gather(image, t, next, left - 1, seen, best);
+    }
+    let heard = with_server(seen, ServerNumber(m.sender));
+    let leads = leader(image, best, n, m);
     gather(image, t, next, left - 1, heard, leads)
 }
 

@@ -1,20 +1,27 @@
-use mathlib.Core.Path.{sym, _∙_}
 use borrow.Author.Needs.{needs}
-use Rattle.values.specs.Tallies.{answer-parts}
+use borrow.Author.Tests.{eq-eqb, ne-eqb}
+use Rattle.values.specs.Tallies.{addAnswer}
 use Rattle.values.proofs.tally.add_answer.Statement.{statement}
 use Rattle.values.proofs.tally.add_answer.Tie as tie
 
-seen-with-requires : tie.Need-seen-with-requires
-seen-with-requires c κs = search needs
-
-replaces-requires : tie.Need-replaces-requires
-replaces-requires c κs = search needs
-
 returns : tie.Need-returns
-returns c = rw (answer-parts, ← c .before .before .seen-with .ensures, sym (c .before .replaces .ensures) ∙ c .if1 .taken)
+unfolding addAnswer
+returns c = simp (ne-eqb _ _ (c .if1 .taken))
+
+larger-requires : tie.Need-larger-requires
+larger-requires c κs = search needs
+
+with-server-requires : tie.Need-with-server-requires
+with-server-requires c κs = search needs
 
 returns-2 : tie.Need-returns-2
-returns-2 c = rw (answer-parts, ← c .before .before .seen-with .ensures, sym (c .before .replaces .ensures) ∙ c .if1 .left)
+unfolding addAnswer
+returns-2 c =
+    simp (
+      c .with-server .ensures,
+      c .before .before .larger .ensures,
+      eq-eqb _ _ (c .before .before .before .before .before .if1 .left),
+    )
 
 pub add-answer-spec : {M : Type 1} → statement M
-add-answer-spec = tie.close (tie.spec seen-with-requires replaces-requires returns returns-2)
+add-answer-spec = tie.close (tie.spec returns larger-requires with-server-requires returns-2)

@@ -2,7 +2,7 @@ use native.Mathlib.Omega.{arith}
 use borrow.Author.Needs.{needs}
 use Rattle.codec.specs.Images.{decode}
 use Rattle.world.specs.Takes.{walk-low, walk-on}
-use Rattle.world.specs.Gathered.{gathers-zero, gathers-none, gathers-on, leads-low}
+use Rattle.world.specs.Gathered.{gathers-zero, gathers-none, gathers-other, gathers-on, leads-low}
 use Prim.Native.Nat.{ℕ, _<_}
 use borrow.Fn.Kinds.{In}
 use borrow.Fn.PlainCycle.{Measures, is, falls, and}
@@ -10,7 +10,7 @@ use Rattle.world.proofs.tally.gather.Reads as gather
 use Rattle.world.proofs.tally.gather.Kinds as gather-kinds
 use Rattle.world.proofs.tally.+gather.Lts-gather as gather-lts
 use Rattle.codec.proofs.places.load_message.Reads as load-message-reads
-use Rattle.values.proofs.tally.seen_with.Reads as seen-with-reads
+use Rattle.values.proofs.sets.with_server.Reads as with-server-reads
 use Rattle.world.proofs.tally.gathered.Reads as gathered-reads
 use Rattle.world.proofs.tally.leader.Reads as leader-reads
 use Rattle.world.proofs.tally.+gather.{statement}
@@ -30,12 +30,12 @@ gather-gathered-requires : (t : ℕ) → gather-lts.Need-gathered-requires (
   gathered-reads.Learnt,
   load-message-reads.Asked,
   load-message-reads.Learnt,
-  seen-with-reads.Asked,
-  seen-with-reads.Learnt,
-  leader-reads.Asked,
-  leader-reads.Learnt,
   gather-below t,
   gather.Post,
+  with-server-reads.Asked,
+  with-server-reads.Learnt,
+  leader-reads.Asked,
+  leader-reads.Learnt,
 ) (gather-at t) gather.Post
 gather-gathered-requires t c κs = search needs
 
@@ -44,12 +44,12 @@ gather-returns : (t : ℕ) → gather-lts.Need-returns (
   gathered-reads.Learnt,
   load-message-reads.Asked,
   load-message-reads.Learnt,
-  seen-with-reads.Asked,
-  seen-with-reads.Learnt,
-  leader-reads.Asked,
-  leader-reads.Learnt,
   gather-below t,
   gather.Post,
+  with-server-reads.Asked,
+  with-server-reads.Learnt,
+  leader-reads.Asked,
+  leader-reads.Learnt,
 ) (gather-at t) gather.Post
 gather-returns t c =
     let s = c .before .before .before .before in
@@ -61,12 +61,12 @@ gather-gathered-requires-2 : (t : ℕ) → gather-lts.Need-gathered-requires-2 (
   gathered-reads.Learnt,
   load-message-reads.Asked,
   load-message-reads.Learnt,
-  seen-with-reads.Asked,
-  seen-with-reads.Learnt,
-  leader-reads.Asked,
-  leader-reads.Learnt,
   gather-below t,
   gather.Post,
+  with-server-reads.Asked,
+  with-server-reads.Learnt,
+  leader-reads.Asked,
+  leader-reads.Learnt,
 ) (gather-at t) gather.Post
 gather-gathered-requires-2 t c κs = search needs
 
@@ -75,12 +75,12 @@ gather-returns-2 : (t : ℕ) → gather-lts.Need-returns-2 (
   gathered-reads.Learnt,
   load-message-reads.Asked,
   load-message-reads.Learnt,
-  seen-with-reads.Asked,
-  seen-with-reads.Learnt,
-  leader-reads.Asked,
-  leader-reads.Learnt,
   gather-below t,
   gather.Post,
+  with-server-reads.Asked,
+  with-server-reads.Learnt,
+  leader-reads.Asked,
+  leader-reads.Learnt,
 ) (gather-at t) gather.Post
 gather-returns-2 t c =
     let s = c .before .before .before .before .before in
@@ -92,58 +92,28 @@ gather-load-message-requires : (t : ℕ) → gather-lts.Need-load-message-requir
   gathered-reads.Learnt,
   load-message-reads.Asked,
   load-message-reads.Learnt,
-  seen-with-reads.Asked,
-  seen-with-reads.Learnt,
-  leader-reads.Asked,
-  leader-reads.Learnt,
   gather-below t,
   gather.Post,
+  with-server-reads.Asked,
+  with-server-reads.Learnt,
+  leader-reads.Asked,
+  leader-reads.Learnt,
 ) (gather-at t) gather.Post
 gather-load-message-requires t c κs =
     let h = c .before .before .before .before .pre .1 .0 in
     (h .legible .size, walk-low h (omega arith) (omega arith))
-
-gather-seen-with-requires : (t : ℕ) → gather-lts.Need-seen-with-requires (
-  gathered-reads.Asked,
-  gathered-reads.Learnt,
-  load-message-reads.Asked,
-  load-message-reads.Learnt,
-  seen-with-reads.Asked,
-  seen-with-reads.Learnt,
-  leader-reads.Asked,
-  leader-reads.Learnt,
-  gather-below t,
-  gather.Post,
-) (gather-at t) gather.Post
-gather-seen-with-requires t c κs = search needs
-
-gather-leader-requires : (t : ℕ) → gather-lts.Need-leader-requires (
-  gathered-reads.Asked,
-  gathered-reads.Learnt,
-  load-message-reads.Asked,
-  load-message-reads.Learnt,
-  seen-with-reads.Asked,
-  seen-with-reads.Learnt,
-  leader-reads.Asked,
-  leader-reads.Learnt,
-  gather-below t,
-  gather.Post,
-) (gather-at t) gather.Post
-gather-leader-requires t c κs =
-    let s = c .before .before .before .before .before .before .before in
-    (s .pre .1 .0 .legible .size, s .pre .1 .1)
 
 gather-sub-gather : (t : ℕ) → gather-lts.Need-sub-gather (
   gathered-reads.Asked,
   gathered-reads.Learnt,
   load-message-reads.Asked,
   load-message-reads.Learnt,
-  seen-with-reads.Asked,
-  seen-with-reads.Learnt,
-  leader-reads.Asked,
-  leader-reads.Learnt,
   gather-below t,
   gather.Post,
+  with-server-reads.Asked,
+  with-server-reads.Learnt,
+  leader-reads.Asked,
+  leader-reads.Learnt,
 ) (gather-at t) gather.Post
 gather-sub-gather t c = search needs
 
@@ -152,37 +122,116 @@ gather-gather-requires : (t : ℕ) → gather-lts.Need-gather-requires (
   gathered-reads.Learnt,
   load-message-reads.Asked,
   load-message-reads.Learnt,
-  seen-with-reads.Asked,
-  seen-with-reads.Learnt,
-  leader-reads.Asked,
-  leader-reads.Learnt,
   gather-below t,
   gather.Post,
+  with-server-reads.Asked,
+  with-server-reads.Learnt,
+  leader-reads.Asked,
+  leader-reads.Learnt,
 ) (gather-at t) gather.Post
 gather-gather-requires t c κs =
-    let s = c .before .before .before .before .before .before .before .before in
-    let h = s .pre .1 .0 in
-    let m = c .before .before .before .load-message .ensures in
-    let b = leads-low h (omega arith) (omega arith) _ m (s .args .t .0) (s .args .best) (s .pre .1 .1) _ (c .leader .ensures) in
-    (omega arith, (walk-on h (omega arith) (omega arith) _ m, b))
+    let s = c .before .before .before .before .before .before .before .before .before .before in
+    (omega arith, (walk-on (s .pre .1 .0) (omega arith) (omega arith) _ (c .before .before .before .before .before .load-message .ensures), s .pre .1 .1))
 
 gather-returns-3 : (t : ℕ) → gather-lts.Need-returns-3 (
   gathered-reads.Asked,
   gathered-reads.Learnt,
   load-message-reads.Asked,
   load-message-reads.Learnt,
-  seen-with-reads.Asked,
-  seen-with-reads.Learnt,
-  leader-reads.Asked,
-  leader-reads.Learnt,
   gather-below t,
   gather.Post,
+  with-server-reads.Asked,
+  with-server-reads.Learnt,
+  leader-reads.Asked,
+  leader-reads.Learnt,
 ) (gather-at t) gather.Post
 gather-returns-3 t c =
-    let s = c .before .before .before .before .before .before .before .before .before in
+    let s = c .before .before .before .before .before .before .before .before .before .before .before in
     let a = s .args in
-    gathers-on (s .pre .1 .0) (omega arith) (omega arith) _ (c .before .before .before .before .load-message .ensures) (a .t .0) _ (a .seen) (a .best) (s .pre .1 .1) _
-    (c .before .before .seen-with .ensures) _ (c .before .leader .ensures) (c .gather .ensures)
+    gathers-other (s .pre .1 .0) (omega arith) (omega arith) _ (c .before .before .before .before .before .before .load-message .ensures) (a .t .0) _ (a .seen) (a .best) (c .before .if3 .taken) (c .gather .ensures)
+
+gather-with-server-requires : (t : ℕ) → gather-lts.Need-with-server-requires (
+  gathered-reads.Asked,
+  gathered-reads.Learnt,
+  load-message-reads.Asked,
+  load-message-reads.Learnt,
+  gather-below t,
+  gather.Post,
+  with-server-reads.Asked,
+  with-server-reads.Learnt,
+  leader-reads.Asked,
+  leader-reads.Learnt,
+) (gather-at t) gather.Post
+gather-with-server-requires t c κs = search needs
+
+gather-leader-requires : (t : ℕ) → gather-lts.Need-leader-requires (
+  gathered-reads.Asked,
+  gathered-reads.Learnt,
+  load-message-reads.Asked,
+  load-message-reads.Learnt,
+  gather-below t,
+  gather.Post,
+  with-server-reads.Asked,
+  with-server-reads.Learnt,
+  leader-reads.Asked,
+  leader-reads.Learnt,
+) (gather-at t) gather.Post
+gather-leader-requires t c κs =
+    let s = c .before .before .before .before .before .before .before .before .before .before .before in
+    (s .pre .1 .0 .legible .size, s .pre .1 .1)
+
+gather-sub-gather-2 : (t : ℕ) → gather-lts.Need-sub-gather-2 (
+  gathered-reads.Asked,
+  gathered-reads.Learnt,
+  load-message-reads.Asked,
+  load-message-reads.Learnt,
+  gather-below t,
+  gather.Post,
+  with-server-reads.Asked,
+  with-server-reads.Learnt,
+  leader-reads.Asked,
+  leader-reads.Learnt,
+) (gather-at t) gather.Post
+gather-sub-gather-2 t c = search needs
+
+gather-gather-requires-2 : (t : ℕ) → gather-lts.Need-gather-requires-2 (
+  gathered-reads.Asked,
+  gathered-reads.Learnt,
+  load-message-reads.Asked,
+  load-message-reads.Learnt,
+  gather-below t,
+  gather.Post,
+  with-server-reads.Asked,
+  with-server-reads.Learnt,
+  leader-reads.Asked,
+  leader-reads.Learnt,
+) (gather-at t) gather.Post
+gather-gather-requires-2 t c κs =
+    let s = c .before .before .before .before .before .before .before .before .before .before .before .before in
+    let h = s .pre .1 .0 in
+    let m = c .before .before .before .before .before .before .before .load-message .ensures in
+    let b = leads-low h (omega arith) (omega arith) _ m (s .args .best) (s .pre .1 .1) _ (c .leader .ensures) in
+    (omega arith, (walk-on h (omega arith) (omega arith) _ m, b))
+
+gather-returns-4 : (t : ℕ) → gather-lts.Need-returns-4 (
+  gathered-reads.Asked,
+  gathered-reads.Learnt,
+  load-message-reads.Asked,
+  load-message-reads.Learnt,
+  gather-below t,
+  gather.Post,
+  with-server-reads.Asked,
+  with-server-reads.Learnt,
+  leader-reads.Asked,
+  leader-reads.Learnt,
+) (gather-at t) gather.Post
+gather-returns-4 t c =
+    let c1 = c .before .before .before in
+    let s = c1 .before .before .before .before .before .before .before .before .before .before in
+    let a = s .args in
+    let c2 = c1 .before .before .before .before .before in
+    gathers-on (s .pre .1 .0) (omega (arith, c2 .before .if2 .left)) (omega (arith, c2 .before .before .if1 .left)) _ (c2 .load-message .ensures) (a .t .0) _ (a .seen) (a .best) (s .pre .1 .1)
+    (c1 .if3 .left) _ (c .before .before .with-server .ensures) _ (c .before .leader .ensures) (c .gather2 .ensures)
 
 pub +gather-spec : {M : Type 1} → statement M
 +gather-spec = close μ-gather λ t. gather-lts.spec (
@@ -190,12 +239,12 @@ pub +gather-spec : {M : Type 1} → statement M
   gathered-reads.Learnt,
   load-message-reads.Asked,
   load-message-reads.Learnt,
-  seen-with-reads.Asked,
-  seen-with-reads.Learnt,
-  leader-reads.Asked,
-  leader-reads.Learnt,
   gather-below t,
   gather.Post,
+  with-server-reads.Asked,
+  with-server-reads.Learnt,
+  leader-reads.Asked,
+  leader-reads.Learnt,
 )
     (gather-at t)
     gather.Post
@@ -204,8 +253,11 @@ pub +gather-spec : {M : Type 1} → statement M
     (gather-gathered-requires-2 t)
     (gather-returns-2 t)
     (gather-load-message-requires t)
-    (gather-seen-with-requires t)
-    (gather-leader-requires t)
     (gather-sub-gather t)
     (gather-gather-requires t)
     (gather-returns-3 t)
+    (gather-with-server-requires t)
+    (gather-leader-requires t)
+    (gather-sub-gather-2 t)
+    (gather-gather-requires-2 t)
+    (gather-returns-4 t)

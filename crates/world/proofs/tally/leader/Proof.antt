@@ -7,20 +7,16 @@ use Rattle.world.proofs.tally.leader.Tie as tie
 load-message-requires : tie.Need-load-message-requires
 load-message-requires c κs = search needs
 
-replaces-requires : tie.Need-replaces-requires
-replaces-requires c κs = search needs
+below-requires : tie.Need-below-requires
+below-requires c κs = search needs
 
 returns : tie.Need-returns
 unfolding leading
-returns c =
-    let e = c .before .before .before .load-message .ensures in
-    rw (← e, sym (c .before .replaces .ensures) ∙ c .if1 .taken)
+returns c = rw (← c .before .before .before .before .load-message .ensures, sym (c .before .below .ensures) ∙ c .if1 .taken)
 
 returns-2 : tie.Need-returns-2
 unfolding leading
-returns-2 c =
-    let e = c .before .before .before .load-message .ensures in
-    rw (← e, sym (c .before .replaces .ensures) ∙ c .if1 .left)
+returns-2 c = rw (← c .before .before .before .before .load-message .ensures, sym (c .before .below .ensures) ∙ c .if1 .left)
 
 pub leader-spec : {M : Type 1} → statement M
-leader-spec = tie.close (tie.spec load-message-requires replaces-requires returns returns-2)
+leader-spec = tie.close (tie.spec load-message-requires below-requires returns returns-2)
