@@ -13,6 +13,7 @@ use super::mail::present;
 use super::mail::request;
 use super::mail::send;
 use super::tally::gather;
+use super::tally::gathered;
 use super::tally::opened;
 use codec::places::load_administrator;
 use codec::places::load_client;
@@ -57,7 +58,8 @@ fn taken_with(image: &[u8], k: MessageNumber, size: u32) -> Taken
     let q = load_message(image, r);
     let head = q.next;
     let own = server_alone(ServerNumber(m.sender));
-    let answers = gather(image, t, head, MESSAGES, own, k);
+    let first = gathered(own, k);
+    let answers = gather(image, t, head, MESSAGES, first);
     let tally = opened(image, answers);
     closes(tally, size)
 }

@@ -1,25 +1,22 @@
-use mathlib.Core.Path.{sym, _∙_}
-use Prim.Native.Nat.{_/_, _^_}
+use Rattle.world.specs.Gathered.{best-low, opens}
 use borrow.Author.Needs.{needs}
-use Rattle.codec.specs.Laws.{message-decode}
-use Rattle.world.specs.Gathered.{opened}
 use Rattle.world.proofs.tally.opened.Statement.{statement}
 use Rattle.world.proofs.tally.opened.Tie as tie
 
-cast-t7 : tie.Need-cast-t7
-cast-t7 c = search needs
+seen-in-requires : tie.Need-seen-in-requires
+seen-in-requires c κs = search needs
+
+best-in-requires : tie.Need-best-in-requires
+best-in-requires c κs = search needs
 
 load-message-requires : tie.Need-load-message-requires
-load-message-requires c κs = search needs
-
-cast-t9 : tie.Need-cast-t9
-cast-t9 c = search needs
+load-message-requires c κs = (c .before .before .before .pre .0, best-low (c .before .before .before .args .g) (c .before .before .before .pre .1) _ (c .best-in .ensures))
 
 returns : tie.Need-returns
-unfolding opened
 returns c =
-    let s = c .before .before .before in
-    rw (← c .before .load-message .ensures ∙ sym (message-decode (s .args .image .now) (s .args .g / 2 ^ 32) (s .pre .1)))
+    let c1 = c .before .before in
+    let s = c1 .before .before .before in
+    opens (s .args .image .now) (s .args .g) (s .pre .1) _ (c1 .before .seen-in .ensures) _ (c1 .best-in .ensures) _ (c .before .load-message .ensures)
 
 pub opened-spec : {M : Type 1} → statement M
-opened-spec = tie.close (tie.spec cast-t7 load-message-requires cast-t9 returns)
+opened-spec = tie.close (tie.spec seen-in-requires best-in-requires load-message-requires returns)
