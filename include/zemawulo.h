@@ -65,12 +65,19 @@ uint64_t zw_premise(const uint8_t *image, size_t n);
  * refused. Result: the steps done, beside a refusal too. */
 uint64_t zw_replay(uint8_t *image, size_t n, const uint8_t *journal, size_t m);
 
+/* The rest of a journal: its steps but the first ones, which were done before
+ * on this image, up to the first that is refused. Result: the steps done now,
+ * beside a refusal too. Refusal 1 also if the journal has fewer steps. */
+uint64_t zw_resume(uint8_t *image, size_t n, const uint8_t *journal, size_t m, uint64_t steps);
+
 /* The rules of one machine, on its record alone, as a real machine runs them.
  * docs/LAYOUT.md has what is asked of it. Refusals 1, 3, then as its step, but
  * 10: only the world knows how many message numbers are used. */
 
-/* A server: a message reaches it, or a faulty one gives a false answer.
- * Result 1 if it answers, with the view and entry of its record. */
+/* A server: a message reaches it (rule 3), or a faulty one gives a false answer
+ * (rule 6). Result of 3: 1 if it answers, with the view and entry of its record,
+ * 0 if it answers nothing. Result of 6: 0; not refused, it may answer with the
+ * view that was asked for, and its record stays as it is. */
 uint64_t zw_server(uint8_t *server, size_t n, const uint8_t *call, size_t m);
 
 /* A client: it begins a write or a read, or its phase closes with an entry.

@@ -62,17 +62,28 @@ pub fn premise(image: &[u8]) -> Result<bool, Refusal> {
     result(raw::premise(image)).map(|holds| holds == 1)
 }
 
-/// The steps of a journal up to the first that is refused.
-pub fn replay(image: &mut [u8], journal: &[u8]) -> Replayed {
-    let answer = raw::replay(image, journal);
+fn replayed(answer: u64) -> Replayed {
     Replayed {
         steps: answer / 256,
         stop: refusal(answer),
     }
 }
 
-/// A server's rule on its record. True if it answers, with the view and entry
-/// of its record.
+/// The steps of a journal up to the first that is refused.
+pub fn replay(image: &mut [u8], journal: &[u8]) -> Replayed {
+    replayed(raw::replay(image, journal))
+}
+
+/// The rest of a journal, up to the first step that is refused: its steps but
+/// the first ones, which were done before on this image. Refused with 1 if it
+/// has fewer. `Replayed::steps` counts the steps done now.
+pub fn resume(image: &mut [u8], journal: &[u8], steps: u64) -> Replayed {
+    replayed(raw::resume(image, journal, steps))
+}
+
+/// A server's rule on its record. True if a message that reached it (rule 3) is
+/// answered, with the view and entry of its record. A false answer (rule 6) that
+/// is not refused is false: the record stays, and shows nothing of it.
 pub fn server(server: &mut [u8], call: &[u8]) -> Result<bool, Refusal> {
     result(raw::server(server, call)).map(|answers| answers == 1)
 }

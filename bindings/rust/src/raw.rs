@@ -10,6 +10,13 @@ mod c {
         pub fn zw_step(image: *mut u8, n: usize, step: *const u8, m: usize) -> u64;
         pub fn zw_premise(image: *const u8, n: usize) -> u64;
         pub fn zw_replay(image: *mut u8, n: usize, journal: *const u8, m: usize) -> u64;
+        pub fn zw_resume(
+            image: *mut u8,
+            n: usize,
+            journal: *const u8,
+            m: usize,
+            steps: u64,
+        ) -> u64;
         pub fn zw_server(server: *mut u8, n: usize, call: *const u8, m: usize) -> u64;
         pub fn zw_client(client: *mut u8, n: usize, call: *const u8, m: usize) -> u64;
         pub fn zw_administrator(record: *mut u8, n: usize, call: *const u8, m: usize) -> u64;
@@ -44,6 +51,12 @@ pub fn step(image: &mut [u8], step: &[u8]) -> u64 {
 
 pub fn replay(image: &mut [u8], journal: &[u8]) -> u64 {
     on(c::zw_replay, image, journal)
+}
+
+pub fn resume(image: &mut [u8], journal: &[u8], steps: u64) -> u64 {
+    let (lent, read) = (image.as_mut_ptr(), journal.as_ptr());
+    // SAFETY: both are pointer and length of slices, which do not overlap.
+    unsafe { c::zw_resume(lent, image.len(), read, journal.len(), steps) }
 }
 
 pub fn server(server: &mut [u8], call: &[u8]) -> u64 {

@@ -2,7 +2,8 @@
 //! safe functions.
 
 use zemawulo::{
-    administrator, client, fresh, premise, quorum, replay, server, step, Refusal, Replayed, IMAGE,
+    administrator, client, fresh, premise, quorum, replay, resume, server, step, Refusal, Replayed,
+    IMAGE, STEP,
 };
 
 fn step_bytes(kind: u8, who: u8, message: u16, value: u32) -> [u8; 12] {
@@ -84,6 +85,42 @@ fn replay_gives_the_same_image_and_stops_where_it_must() {
         stop: Some(Refusal(1)),
     };
     assert_eq!(replay(&mut image, &journal), uneven);
+}
+
+#[test]
+fn the_rest_of_a_journal_leads_to_the_same_end() {
+    let journal: Vec<u8> = worked().concat();
+    let mut whole = vec![0; IMAGE];
+    fresh(&mut whole, 1, 0).unwrap();
+    replay(&mut whole, &journal);
+    for done in 0..=10 {
+        let mut image = vec![0; IMAGE];
+        fresh(&mut image, 1, 0).unwrap();
+        replay(&mut image, &journal[..done * STEP]);
+        let rest = Replayed {
+            steps: 10 - done as u64,
+            stop: None,
+        };
+        assert_eq!(resume(&mut image, &journal, done as u64), rest);
+        assert_eq!(image, whole);
+    }
+    let first_again = Replayed {
+        steps: 0,
+        stop: Some(Refusal(4)),
+    };
+    let mut image = vec![0; IMAGE];
+    fresh(&mut image, 1, 0).unwrap();
+    replay(&mut image, &journal[..STEP]);
+    assert_eq!(resume(&mut image, &journal, 0), first_again);
+    let fewer = Replayed {
+        steps: 0,
+        stop: Some(Refusal(1)),
+    };
+    for steps in [11, u64::MAX] {
+        assert_eq!(resume(&mut whole, &journal, steps), fewer);
+    }
+    assert_eq!(resume(&mut whole, &journal[1..], 0), fewer);
+    assert_eq!(resume(&mut whole[1..], &journal, 10), fewer);
 }
 
 #[test]

@@ -90,7 +90,7 @@ pub record Inv (w : World) : Type 0 where
   pub later : (k : ℕ) → k ≤ w .used → IsAnswer (sent w k) → sent w k .request .0 < k
   pub tagged : (k : ℕ) → k ≤ w .used → IsAnswer (sent w k) → Keyed w (sent w k .view .0) (sent w k .sender)
   -- W2
-  pub keyed : (s t : ℕ) → holds (server w s .keys) t ≡ true → Keyed w t s
+  pub keyed : (s t : ℕ) → holds (server w s .keys .0) t ≡ true → Keyed w t s
   -- W4
   pub stamped : (k : ℕ) → k ≤ w .used → Fair w (sent w k) → sent w k .entry ≼ server w (sent w k .sender) .entry
   pub viewed : (k : ℕ) → k ≤ w .used → Fair w (sent w k) → sent w k .view .0 ≤ server w (sent w k .sender) .view .0
@@ -99,7 +99,7 @@ pub record Inv (w : World) : Type 0 where
   -- W6
   pub paid : (k : ℕ) → k ≤ w .used → Fair w (sent w k) → sent w (sent w k .request .0) .kind ≡ WRITE → sent w (sent w k .request .0) .entry ≼ sent w k .entry
   -- W7
-  pub lost : (k : ℕ) → k ≤ w .used → Fair w (sent w k) → sent w (sent w k .request .0) .kind ≡ END → holds (server w (sent w k .sender) .keys) (sent w k .view .0) ≡ false
+  pub lost : (k : ℕ) → k ≤ w .used → Fair w (sent w k) → sent w (sent w k .request .0) .kind ≡ END → holds (server w (sent w k .sender) .keys .0) (sent w k .view .0) ≡ false
   -- W8
   pub closed : (i j : ℕ) → i < j → j ≤ w .used → Fair w (sent w i) → sent w (sent w i .request .0) .kind ≡ END → Again (sent w i) (sent w j) → ⊥
   -- W9
@@ -195,10 +195,10 @@ module _ {w v : World} (c : Change w v) (n : Inv w) where
   low-on : 1 ≤ newest v
   low-on = omega (arith, n .low, raised c)
 
-  keyed-all : (s t : ℕ) → holds (server v s .keys) t ≡ true → Keyed v t s
+  keyed-all : (s t : ℕ) → holds (server v s .keys .0) t ≡ true → Keyed v t s
   keyed-all s t h = go (c .grew s .keys t h)
     where
-      go : (holds (server w s .keys) t ≡ true) ⊎ Given w t s → Keyed v t s
+      go : (holds (server w s .keys .0) t ≡ true) ⊎ Given w t s → Keyed v t s
       go (inl k) = keyed-on c (n .keyed s t k)
       go (inr g) =
           let o = n .started (g .by) (g .sentBy .below) (g .sentBy .is) in
@@ -238,9 +238,9 @@ module _ {w v : World} (c : Change w v) (n : Inv w) where
       (λ k l f. rw (c .old (sent w k .request .0) (omega (arith, n .later k l (f .is)))) (n .paid k l (fair-back c f)))
       (λ e m f. rw (c .old (sent v (v .used) .request .0) (m .answer (f .is) .asked .below)) (honest m f .write))
 
-  lost-on : (k : ℕ) → k ≤ v .used → Fair v (sent v k) → sent v (sent v k .request .0) .kind ≡ END → holds (server v (sent v k .sender) .keys) (sent v k .view .0) ≡ false
+  lost-on : (k : ℕ) → k ≤ v .used → Fair v (sent v k) → sent v (sent v k .request .0) .kind ≡ END → holds (server v (sent v k .sender) .keys .0) (sent v k .view .0) ≡ false
   lost-on =
-      each c (λ k m. Fair v m → sent v (m .request .0) .kind ≡ END → holds (server v (m .sender) .keys) (m .view .0) ≡ false)
+      each c (λ k m. Fair v m → sent v (m .request .0) .kind ≡ END → holds (server v (m .sender) .keys .0) (m .view .0) ≡ false)
       (λ k l f. rw (c .old (sent w k .request .0) (omega (arith, n .later k l (f .is)))) (λ e. c .grew _ .lost _ (n .viewed k l (fair-back c f)) (n .lost k l (fair-back c f) e) (f .good)))
       (λ e m f. rw (c .old (sent v (v .used) .request .0) (m .answer (f .is) .asked .below)) (honest m f .ended))
 

@@ -13,7 +13,7 @@ use Rattle.protocol.specs.declared.Client.{Client}
 use Rattle.protocol.specs.declared.Message.{Message}
 use Rattle.protocol.specs.declared.Step.{Step}
 use Rattle.protocol.specs.Tools.{if, holds, bitOf, Result, refused, done, passed}
-use Rattle.protocol.specs.Sizes.{messages, sized}
+use Rattle.protocol.specs.Sizes.{messages, sized, viewWith}
 use Rattle.protocol.specs.Entries.{empty}
 use Rattle.protocol.specs.Clients.{WRITES, READS, isIdle}
 use Rattle.protocol.specs.Worlds.{World, noMessage, view, server, client, member, freshWorld, fresh}
@@ -62,7 +62,7 @@ module _ (v : View) (z : sized v ≡ true) where
             pending = λ e. clash e (fresh-settled v);
           }
 
-  fresh-keyed : (s t : ℕ) → holds (server (freshWorld v) s .keys) t ≡ true → Keyed (freshWorld v) t s
+  fresh-keyed : (s t : ℕ) → holds (server (freshWorld v) s .keys .0) t ≡ true → Keyed (freshWorld v) t s
   unfolding member bitOf
   fresh-keyed s t h = go (first v s)
     where
@@ -188,7 +188,7 @@ pub reached : (bits f : ℕ) (w : World) → fresh bits f ≡ done w → (bs : L
 unfolding fresh runFrom
 reached bits f w e bs =
     let (z, d) = passed _ _ _ _ e in
-    run-reached _ bs (subst (λ (x : World). Reached (record { world = x; place = 1; operations = [] })) (is-done d) (from-fresh (record { members = bits; f = f }) z))
+    run-reached _ bs (subst (λ (x : World). Reached (record { world = x; place = 1; operations = [] })) (is-done d) (from-fresh (viewWith bits f) z))
   where
     is-done : {x y : World} → done x ≡ done y → x ≡ y
     is-done e = cc

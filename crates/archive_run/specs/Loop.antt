@@ -11,7 +11,7 @@ use Rattle.bounds.specs.Progress.{progress, limit}
 use Rattle.bounds.specs.Theorem.{moves, bounded}
 use Rattle.codec.specs.Images.{encode, decode}
 use Rattle.image.specs.Readable.{world-decode}
-use Rattle.consistency.specs.Steps.{stepOn, leftBy}
+use Rattle.image.specs.Steps.{stepOn, leftBy}
 use Rattle.world.specs.Images.{Legible}
 use Rattle.journal.specs.Replays.{spelled}
 use Rattle.archive_run.specs.declared.Onward.{Onward}

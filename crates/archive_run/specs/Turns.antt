@@ -3,7 +3,7 @@ use Prim.Native.Nat.{ℕ, _≤_, _<_}
 use mathlib.Core.Bool.{Bool, true, false, _&&_}
 use mathlib.Core.Path.{_≡_, refl, sym, ap, ap₂, subst, _∙_}
 use mathlib.Core.Logic.{_⊎_, inl, inr}
-use mathlib.Core.List.{List, []}
+use mathlib.Core.List.{List, [], _∷_}
 use native.Mathlib.Omega.{arith}
 use lib.ListN.{length, take-append-drop}
 use lib.Dec.{leb, eqb}
@@ -14,14 +14,14 @@ use Rattle.protocol.specs.Tools.{if, within, Result, refused, done, guard}
 use Rattle.protocol.specs.Sizes.{clients}
 use Rattle.protocol.specs.Steps.{After, step}
 use Rattle.protocol.specs.Runs.{stepWidth, stepOf}
-use Rattle.protocol.specs.Sizes.{sized}
-use Rattle.protocol.specs.Worlds.{World, freshWorld, fresh}
+use Rattle.protocol.specs.Worlds.{World, fresh}
+use Rattle.protocol.specs.Laws.Refusals.{among-ranged, fresh-refuses}
 use Rattle.codec.specs.Layout.{imageSize}
 use Rattle.codec.specs.Lists.{put}
 use Rattle.codec.specs.Places.{clientAt}
 use Rattle.codec.specs.Images.{encode, decode}
 use Rattle.image.specs.Fresh.{Outcome, outcome, freshOn}
-use Rattle.consistency.specs.Steps.{stepOn, leftBy}
+use Rattle.image.specs.Steps.{stepOn, leftBy}
 use Rattle.world.specs.declared.Stepped.{Stepped}
 use Rattle.world.specs.declared.Stepped.the-variants.{StepRefused, StepDone}
 use Rattle.preservation.specs.Begun.{fresh-kept}
@@ -116,21 +116,13 @@ pub does-legible : (r : Stepped) (l l′ b : List ℕ) → Legible l → length 
 does-legible r l l′ b h e d = subst (Does r l l′) (sym (step-legible l b h e)) d
 
 -- the fresh world's
-refused-by-size : (members f n : ℕ) → fresh members f ≡ refused n → n ≡ 8
-unfolding fresh guard
-refused-by-size members f n e = go (sized (record { members = members; f = f })) e
-  where
-    go : (b : Bool) → guard b 8 (done (freshWorld (record { members = members; f = f }))) ≡ refused n → n ≡ 8
-    go true e = let z : _≡_ {A = ℕ} 0 1 = cc in absurd (omega arith)
-    go false e = cc
-
 fresh-legible : (i : List ℕ) (members f : ℕ) → freshOn i members f .refusal ≡ 0 → Legible (freshOn i members f .image)
 unfolding freshOn guard
 fresh-legible i members f e = go (eqb (length i) imageSize) (fresh members f) refl e
   where
     go : (b : Bool) (x : Result World) → fresh members f ≡ x → outcome i (guard b 1 x) .refusal ≡ 0 → Legible (outcome i (guard b 1 x) .image)
     go true (done w) q e = spelled w (fresh-kept members f w q) (encode w) refl
-    go true (refused n) q e = absurd (omega (arith, refused-by-size members f n q))
+    go true (refused n) q e = absurd (let (l, u) = among-ranged 8 8 (8 ∷ []) n refl (fresh-refuses members f .numbers n q) in omega arith)
     go false x q e = absurd (omega arith)
 
 pub first-legible : (i b : List ℕ) → firstOn i b .refusal ≡ 0 → Legible (firstOn i b .image)

@@ -4,7 +4,7 @@ ghost use Prim.Native.Nat.{_≤_};
 ghost use lib.ListN.{length};
 ghost use Rattle.codec.specs.Layout.{imageSize};
 ghost use Rattle.codec.specs.Lists.{put};
-ghost use Rattle.consistency.specs.Steps.{stepOn, leftBy};
+ghost use Rattle.image.specs.Steps.{stepOn, leftBy};
 ghost use Rattle.world.specs.Images.{Legible};
 ghost use Rattle.archive_run.specs.Turns.{firstFits, firstOn, lineOn, turned, measured, lineAfter};
 use codec::layout::STEP;

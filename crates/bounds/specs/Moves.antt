@@ -23,15 +23,15 @@ use Rattle.protocol.specs.Servers.{WRITE, END, START, Reply, keeping, withoutKe
 use Rattle.protocol.specs.Clients.{WRITES, READS, begin, closeSize, Close, close, call, advance}
 use Rattle.protocol.specs.Worlds.{World, view, server, client, message, newest, member, present, room, withServer, withClient, withView, withAdministrator, withMessage, send}
 use Rattle.protocol.specs.Chains.{enough, shown}
-use Rattle.protocol.specs.Steps.{After, moved, request, answers, begins, deliver, link, takenWith, closes, starts, takes, take, fault, source?, lie, newView, uses, fieldsFit, perform, step}
+use Rattle.protocol.specs.Steps.{After, moved, request, answers, begins, deliver, link, takenWith, closes, starts, takes, take, fault, source?, lie, newView, uses, step, deliverStep, faultStep, viewAsked}
 use Rattle.protocol.specs.Readable.{serverFits, zeroMessage}
 use Rattle.protocol.specs.Laws.Tests.{and-left, and-right, or-cases, by-bool, clash, within-true, went}
 use Rattle.protocol.specs.Laws.Bits.{holds-bitOf, holds-own, holds-or, holds-none}
 use Rattle.protocol.specs.Laws.Worlds.{message-send, server-same, server-other}
 use Rattle.protocol.specs.Laws.Sound.{link-used}
-use Rattle.protocol.specs.Laws.Moves.{done-is, IsServer, Serving, reads, writes, ends, joins, gathers, serving}
-use Rattle.protocol.specs.Laws.Turns.{server-of as who-server}
-use Rattle.preservation.specs.Formed.{Formed}
+use Rattle.protocol.specs.Laws.Moves.{done-is, Serving, reads, writes, ends, joins, gathers, serving}
+use Rattle.protocol.specs.Laws.Kinds.{IsServer, server-of as who-server, by-kind}
+use Rattle.protocol.specs.Laws.Formed.{Formed}
 use Rattle.preservation.specs.Links.{Untaken, link-taken-other, v-taken}
 use Rattle.preservation.specs.Updates.{mail-zero, request-of, present-is}
 use Rattle.preservation.specs.Kept.{mailed}
@@ -43,19 +43,19 @@ reached-view : (a : Server) (t : ℕ) → t ≤ a .view .0 → reached a t ≡ t
 unfolding reached
 reached-view a t h = rw (le-leb t (a .view .0) h) refl
 
-reached-key : (a : Server) (t : ℕ) → holds (a .keys) t ≡ true → reached a t ≡ true
+reached-key : (a : Server) (t : ℕ) → holds (a .keys .0) t ≡ true → reached a t ≡ true
 unfolding reached
 reached-key a t h = go (leb t (a .view .0))
   where
-    go : (b : Bool) → (b || holds (a .keys) t) ≡ true
+    go : (b : Bool) → (b || holds (a .keys .0) t) ≡ true
     go true = refl
     go false = h
 
-reached-by : (a : Server) (t : ℕ) → reached a t ≡ true → (t ≤ a .view .0) ⊎ (holds (a .keys) t ≡ true)
+reached-by : (a : Server) (t : ℕ) → reached a t ≡ true → (t ≤ a .view .0) ⊎ (holds (a .keys .0) t ≡ true)
 unfolding reached
 reached-by a t e = go (or-cases _ _ e)
   where
-    go : (leb t (a .view .0) ≡ true) ⊎ (holds (a .keys) t ≡ true) → (t ≤ a .view .0) ⊎ (holds (a .keys) t ≡ true)
+    go : (leb t (a .view .0) ≡ true) ⊎ (holds (a .keys .0) t ≡ true) → (t ≤ a .view .0) ⊎ (holds (a .keys .0) t ≡ true)
     go (inl l) = inl (leb-true _ _ l)
     go (inr k) = inr k
 
@@ -74,10 +74,10 @@ module _ (a b : Server) (f : (t : ℕ) → reached a t ≡ true → reached b t 
         bit-le (a .faulty) (b .faulty) g,
       )
 
-not-reached : (a : Server) (t : ℕ) → a .view .0 < t → holds (a .keys) t ≡ false → reached a t ≡ false
+not-reached : (a : Server) (t : ℕ) → a .view .0 < t → holds (a .keys .0) t ≡ false → reached a t ≡ false
 not-reached a t l k = go (by-bool (reached a t))
   where
-    by : (t ≤ a .view .0) ⊎ (holds (a .keys) t ≡ true) → reached a t ≡ false
+    by : (t ≤ a .view .0) ⊎ (holds (a .keys .0) t ≡ true) → reached a t ≡ false
     by (inl h) = absurd (omega arith)
     by (inr h) = clash h k
 
@@ -96,13 +96,13 @@ keeping-gains a e = le-refl _
 
 -- "A correct server has no key but its own view's"
 record Own (a : Server) : Type 0 where
-  key : a .faulty ≡ false → (t : ℕ) → holds (a .keys) t ≡ true → t ≡ a .view .0
+  key : a .faulty ≡ false → (t : ℕ) → holds (a .keys .0) t ≡ true → t ≡ a .view .0
 
 -- a correct server reaches its view, and no view beyond
 own-reached : (a : Server) → Own a → a .faulty ≡ false → (t : ℕ) → reached a t ≡ true → t ≤ a .view .0
 own-reached a o f t e = go (reached-by a t e)
   where
-    go : (t ≤ a .view .0) ⊎ (holds (a .keys) t ≡ true) → t ≤ a .view .0
+    go : (t ≤ a .view .0) ⊎ (holds (a .keys .0) t ≡ true) → t ≤ a .view .0
     go (inl h) = h
     go (inr h) = omega (arith, o .key f t h)
 
@@ -125,16 +125,16 @@ or-key true y e = refl
 or-key false y (inl e) = clash e refl
 or-key false y (inr e) = e
 
-gathering-gains : (a : Server) (m : Message) → a .view .0 < m .view .0 → holds (a .keys) (m .view .0) ≡ false → m .view .0 ≤ views → gained a < gained (gathering a m)
+gathering-gains : (a : Server) (m : Message) → a .view .0 < m .view .0 → holds (a .keys .0) (m .view .0) ≡ false → m .view .0 ≤ views → gained a < gained (gathering a m)
 unfolding gathering
 gathering-gains a m l k u =
     gained-less a (gathering a m) (λ t e. more t (reached-by a t e)) (λ e. e) (m .view .0) (omega arith) u (not-reached a (m .view .0) l k)
     (reached-key (gathering a m) (m .view .0) (held (m .view .0) (inr (holds-own (m .view .0) (omega arith)))))
   where
-    held : (t : ℕ) → (holds (a .keys) t ≡ true) ⊎ (holds (bitOf (m .view .0)) t ≡ true) → holds (bitOr (a .keys) (bitOf (m .view .0))) t ≡ true
-    held t e = holds-or (a .keys) (bitOf (m .view .0)) t ∙ or-key _ _ e
+    held : (t : ℕ) → (holds (a .keys .0) t ≡ true) ⊎ (holds (bitOf (m .view .0)) t ≡ true) → holds (bitOr (a .keys .0) (bitOf (m .view .0))) t ≡ true
+    held t e = holds-or (a .keys .0) (bitOf (m .view .0)) t ∙ or-key _ _ e
 
-    more : (t : ℕ) → (t ≤ a .view .0) ⊎ (holds (a .keys) t ≡ true) → reached (gathering a m) t ≡ true
+    more : (t : ℕ) → (t ≤ a .view .0) ⊎ (holds (a .keys .0) t ≡ true) → reached (gathering a m) t ≡ true
     more t (inl h) = reached-view (gathering a m) t h
     more t (inr h) = reached-key (gathering a m) t (held t (inl h))
 
@@ -283,23 +283,23 @@ module _ {w : World} (h : Formed w) where
   own {s} i =
       let e = h .served s (i .low) (i .high) in
       let e1 = and-right (leb (server w s .view .0) (newest w)) _ e in
-      let e2 = and-right (ltb (server w s .keys) (2 ^ newest w)) _ e1 in
+      let e2 = and-right (ltb (server w s .keys .0) (2 ^ newest w)) _ e1 in
       record { key = λ f t k. go t k (or-cases _ _ (correct (server w s .faulty) _ f (and-left _ _ e2))) }
     where
       correct : (x y : Bool) → x ≡ false → (x || y) ≡ true → y ≡ true
       correct true y f e = clash refl f
       correct false y f e = e
 
-      go : (t : ℕ) → holds (server w s .keys) t ≡ true → (eqb (server w s .keys) 0 ≡ true) ⊎ (eqb (server w s .keys) (bitOf (server w s .view .0)) ≡ true) → t ≡ server w s .view .0
-      go t k (inl z) = clash k (ap (λ (x : ℕ). holds x t) (eqb-true (server w s .keys) 0 z) ∙ holds-none t)
-      go t k (inr z) = holds-bitOf (server w s .view .0) t (rw (eqb-true (server w s .keys) (bitOf (server w s .view .0)) z) at k)
+      go : (t : ℕ) → holds (server w s .keys .0) t ≡ true → (eqb (server w s .keys .0) 0 ≡ true) ⊎ (eqb (server w s .keys .0) (bitOf (server w s .view .0)) ≡ true) → t ≡ server w s .view .0
+      go t k (inl z) = clash k (ap (λ (x : ℕ). holds x t) (eqb-true (server w s .keys .0) 0 z) ∙ holds-none t)
+      go t k (inr z) = holds-bitOf (server w s .view .0) t (rw (eqb-true (server w s .keys .0) (bitOf (server w s .view .0)) z) at k)
 
   -- a START is of a view that there is
   start-tag : (n : ℕ) → 1 ≤ n → n ≤ w .used → message w n .kind ≡ START → message w n .view .0 ≤ views
   start-tag n l u e = omega (arith, within-true 1 (newest w) (message w n .view .0) (rw e at (mailed h n l u .tag)) .1, h .high)
 
 -- "if it is in N(t), its recorded view is below t and it lacks the key"
-gathers-new : (a : Server) (m : Message) (i : Bool) (r : Reply) → serve a m i ≡ done r → m .kind ≡ START → a .faulty ≡ true → (a .view .0 < m .view .0) × (holds (a .keys) (m .view .0) ≡ false)
+gathers-new : (a : Server) (m : Message) (i : Bool) (r : Reply) → serve a m i ≡ done r → m .kind ≡ START → a .faulty ≡ true → (a .view .0 < m .view .0) × (holds (a .keys .0) (m .view .0) ≡ false)
 unfolding serve
 gathers-new a m i r e k f =
     let (p, e1) = passed _ _ _ _ e in
@@ -395,19 +395,15 @@ take-moves {w} h k a e =
 
 -- Every accepted step brings a readable world further.
 pub step-moves : {w : World} → Formed w → (st : Step) (a : After) → step w st ≡ done a → Further w a
-unfolding step perform uses
+unfolding step uses
 step-moves {w} h st a e =
     let (f, e1) = passed _ _ _ _ e in
-    go f (eqb (st .kind) 1) (eqb (st .kind) 2) (eqb (st .kind) 3) (eqb (st .kind) 4) (eqb (st .kind) 5) (eqb (st .kind) 6) refl refl e1
-  where
-    go : fieldsFit st ≡ true → (b1 b2 b3 b4 b5 b6 : Bool) → eqb (st .kind) 3 ≡ b3 → eqb (st .kind) 5 ≡ b5
-        → if b1 (begins w (st .who) WRITES (st .value)) (if b2 (begins w (st .who) READS 0) (if b3 (deliver w (st .who) (st .message .0)) (if b4 (take w (st .message .0))
-        (if b5 (fault w (st .who)) (if b6 (lie w (st .who) (st .view .0) (st .message .0) (st .source .0)) (newView w (record { members = st .value; f = st .f }))))))) ≡ done a
-        → Further w a
-    go f true b2 b3 b4 b5 b6 e3 e5 e = begins-moves h (st .who) WRITES (st .value) a e
-    go f false true b3 b4 b5 b6 e3 e5 e = begins-moves h (st .who) READS 0 a e
-    go f false false true b4 b5 b6 e3 e5 e = deliver-moves h (who-server st 3 f (eqb-true _ _ e3) refl refl) (st .message .0) a e
-    go f false false false true b5 b6 e3 e5 e = take-moves h (st .message .0) a e
-    go f false false false false true b6 e3 e5 e = fault-moves h (who-server st 5 f (eqb-true _ _ e5) refl refl) a e
-    go f false false false false false true e3 e5 e = lie-moves h (st .who) (st .view .0) (st .message .0) (st .source .0) a e
-    go f false false false false false false e3 e5 e = newView-moves h (record { members = st .value; f = st .f }) a e
+    by-kind w st f (λ x. x ≡ done a → Further w a)
+    (λ q. begins-moves h (st .who) WRITES (st .value) a)
+    (λ q. begins-moves h (st .who) READS 0 a)
+    (λ q. deliver-moves h (who-server st deliverStep f q refl refl) (st .message .0) a)
+    (λ q. take-moves h (st .message .0) a)
+    (λ q. fault-moves h (who-server st faultStep f q refl refl) a)
+    (λ q. lie-moves h (st .who) (st .view .0) (st .message .0) (st .source .0) a)
+    (λ q. newView-moves h (viewAsked st) a)
+    e1

@@ -7,19 +7,14 @@ use mathlib.Core.Path.{_≡_, refl, ap}
 use mathlib.Core.Logic.{_⊎_, inl, inr}
 use lib.Dec.{leb}
 use Rattle.protocol.specs.declared.Server.{Server}
-use Rattle.protocol.specs.Tools.{bit, holds}
+use Rattle.protocol.specs.Tools.{bit, holds, sumTo}
 use Rattle.protocol.specs.Sizes.{servers, views, messages}
 use Rattle.protocol.specs.Worlds.{World, server, message}
 use Rattle.protocol.specs.Laws.Tests.{last-or}
 
--- the sum of g 1 to g n
-unfoldable pub sumTo : (ℕ → ℕ) → ℕ → ℕ
-sumTo g zero = 0
-sumTo g (suc n) = sumTo g n + g (suc n)
-
 -- view t is not above the server's own, or it holds the key of t
 unfoldable pub reached : Server → ℕ → Bool
-reached a t = leb t (a .view .0) || holds (a .keys) t
+reached a t = leb t (a .view .0) || holds (a .keys .0) t
 
 -- how far a server has come: the views that it has reached, and one more if it is faulty
 unfoldable pub gained : Server → ℕ

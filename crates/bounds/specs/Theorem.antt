@@ -10,7 +10,7 @@ use Rattle.protocol.specs.Worlds.{World, fresh}
 use Rattle.protocol.specs.Steps.{After, step}
 use Rattle.protocol.specs.Runs.{stepOf, stepBytes, onward, replay, Run, noted}
 use Rattle.protocol.specs.Readable.{wellFormed}
-use Rattle.preservation.specs.Formed.{formed}
+use Rattle.protocol.specs.Laws.Formed.{formed}
 use Rattle.preservation.specs.Kept.{step-kept}
 use Rattle.preservation.specs.Begun.{fresh-kept}
 use Rattle.bounds.specs.Progress.{progress, limit, progress-most}

@@ -5,18 +5,17 @@ use mathlib.Core.Option.{none, some}
 use mathlib.Core.Path.{_≡_, refl}
 use Rattle.checked.specs.Types.{Entry, Server, Phase, Idle, Reading, Writing, Client, Settled, EndSent, Administrator, Message}
 use Rattle.protocol.specs.Tools.{countTo, holds, bitOf, Result, refused, done, guard}
-use Rattle.protocol.specs.Sizes.{quorum, size, sized, writeSize}
+use Rattle.protocol.specs.Sizes.{quorum, size, sized, writeSize, viewWith}
 use Rattle.protocol.specs.Entries.{entry, empty, below, larger, same, entryFits}
 use Rattle.protocol.specs.Servers.{READ, WRITE, END, START, ANSWER, Reply, keeping, withoutKey, joining, serve}
 use Rattle.protocol.specs.Clients.{NONE, WRITES, number, begin, toWrite, countLeft, close, call, advance}
 use Rattle.values.specs.Bits.{bitIn}
 use Rattle.values.specs.Tallies.{firstAnswer, closesAt}
-use Rattle.values.specs.Records.{serverRule, keyRule, messageRule}
 use Rattle.checked.specs.Ranges.{numberFits, serverInRange, messageInRange, clientInRange, endFits, administratorInRange}
 use Rattle.checked.specs.Rules.{serveRule, writeRule, takeRule, closeRule, callRule, advanceRule}
 
 server : ℕ → ℕ → Entry → Server
-server t keys e = record { view = record { 0 = t }; faulty = false; keys = keys; entry = e }
+server t keys e = record { view = record { 0 = t }; faulty = false; keys = record { 0 = keys }; entry = e }
 
 client : Phase → ℕ → Entry → Client
 client p kind e = record { phase = p; kind = kind; entry = e }
@@ -48,19 +47,19 @@ unfolding client writeRule guard clientInRange entryFits same numberFits begin
 write-begins = refl
 
 read-served : serveRule (server 1 1 empty) (request READ 1 0 empty) false ≡ answers (server 1 1 empty) 1 empty
-unfolding server request answers serveRule guard serverInRange serverRule keyRule messageInRange messageRule entryFits same bitOf serve holds
+unfolding server request answers serveRule guard serverInRange messageInRange entryFits same bitOf serve holds
 read-served = refl
 
 -- a client that waits for nothing takes no answer
 none-taken : takeRule (answer 1 1 1 empty) 0 ≡ refused 7
-unfolding answer takeRule guard messageInRange messageRule entryFits same numberFits
+unfolding answer takeRule guard messageInRange entryFits same numberFits
 none-taken = refl
 
 read-taken : takeRule (answer 1 1 1 empty) 1 ≡ done (answer 1 1 1 empty)
-unfolding answer takeRule guard messageInRange messageRule entryFits same numberFits
+unfolding answer takeRule guard messageInRange entryFits same numberFits
 read-taken = refl
 
-read-closes : closesAt (firstAnswer (answer 1 1 1 empty)) (writeSize (record { members = 1; f = 0 })) ≡ some empty
+read-closes : closesAt (firstAnswer (answer 1 1 1 empty)) (writeSize (viewWith 1 0)) ≡ some empty
 unfolding answer closesAt firstAnswer bitIn bitOf holds countTo writeSize quorum size
 read-closes = refl
 
@@ -70,7 +69,7 @@ unfolding client closeRule guard clientInRange entryFits numberFits close countL
 write-next = refl
 
 write-served : serveRule (server 1 1 empty) (request WRITE 1 0 (entry 1 1 7)) false ≡ answers (server 1 1 (entry 1 1 7)) 1 (entry 1 1 7)
-unfolding server request answers serveRule guard serverInRange serverRule keyRule messageInRange messageRule entryFits same bitOf serve holds keeping larger below
+unfolding server request answers serveRule guard serverInRange messageInRange entryFits same bitOf serve holds keeping larger below
 write-served = refl
 
 write-complete : closeRule (client (Writing (number 3)) WRITES (entry 1 1 7)) 1 (entry 1 1 7) 5
@@ -79,12 +78,12 @@ unfolding client closeRule guard clientInRange entryFits numberFits close
 write-complete = refl
 
 -- view 2 is called
-view-called : callRule (administrator 1) (record { members = 3; f = 0 }) 5 ≡ done (ending 1 5)
+view-called : callRule (administrator 1) (viewWith 3 0) 5 ≡ done (ending 1 5)
 unfolding administrator ending callRule guard administratorInRange numberFits call sized size countTo holds
 view-called = refl
 
 end-served : serveRule (server 1 1 (entry 1 1 7)) (request END 0 1 empty) true ≡ answers (server 1 0 (entry 1 1 7)) 1 (entry 1 1 7)
-unfolding server request answers serveRule guard serverInRange serverRule keyRule messageInRange messageRule entryFits same bitOf serve holds withoutKey
+unfolding server request answers serveRule guard serverInRange messageInRange entryFits same bitOf serve holds withoutKey
 end-served = refl
 
 end-closes : advanceRule (ending 1 5) ≡ done (administrator 2)
@@ -92,10 +91,10 @@ unfolding administrator ending advanceRule guard administratorInRange endFits nu
 end-closes = refl
 
 start-served : serveRule (server 0 0 empty) (request START 0 2 (entry 1 1 7)) true ≡ silent (server 2 2 (entry 1 1 7))
-unfolding server request silent serveRule guard serverInRange serverRule keyRule messageInRange messageRule entryFits same bitOf serve holds joining larger below
+unfolding server request silent serveRule guard serverInRange messageInRange entryFits same bitOf serve holds joining larger below
 start-served = refl
 
 -- a retired server is silent
 late-read : serveRule (server 1 0 (entry 1 1 7)) (request READ 2 0 empty) false ≡ refused 7
-unfolding server request serveRule guard serverInRange serverRule keyRule messageInRange messageRule entryFits same bitOf serve holds
+unfolding server request serveRule guard serverInRange messageInRange entryFits same bitOf serve holds
 late-read = refl

@@ -1,18 +1,17 @@
 -- The ranges of single records, for a machine that knows no newest view. Assumes nothing.
 use Prim.Native.Nat.{ℕ, _≤_, _<_}
-use mathlib.Core.Path.{_≡_, refl}
+use mathlib.Core.Path.{_≡_}
 use native.Mathlib.Omega.{arith}
 use borrow.Author.Tests.{leb-true, ltb-true, eqb-true}
 use mathlib.Core.Bool.{Bool, true, false, _&&_}
 use lib.Dec.{ltb, leb, eqb}
 use Rattle.checked.specs.Types.{Server, Phase, Idle, Reading, Writing, Client, Ending, Settled, EndSent, Administrator, Message}
-use Rattle.protocol.specs.Tools.{if, within}
+use Rattle.protocol.specs.Tools.{if, within, both}
 use Rattle.protocol.specs.Sizes.{views, messages}
 use Rattle.protocol.specs.Entries.{entryFits}
 use Rattle.protocol.specs.Servers.{READ, WRITE, ANSWER}
 use Rattle.protocol.specs.Clients.{isEnding}
-use Rattle.protocol.specs.Readable.{senderFits}
-use Rattle.values.specs.Records.{serverRule, idleRule, kindRule, readingRule, tagRule, messageRule}
+use Rattle.protocol.specs.Readable.{senderFits, serverRule, idleRule, kindRule, readingRule, tagRule, messageRule}
 
 -- "messages 1 to 1,023"
 unfoldable pub numberFits : ℕ → Bool
@@ -45,17 +44,13 @@ endingInRange newest (EndSent r) = endFits newest (r .0)
 unfoldable pub administratorInRange : Administrator → Bool
 administratorInRange a = within 1 views (a .newest .0) && endingInRange (a .newest .0) (a .ending)
 
-both : (a b : Bool) → a && b ≡ true → (a ≡ true) × (b ≡ true)
-both true b e = (refl, e)
-both false b e = (e, cc)
-
 -- the view of a message in range is one that a key can name
-tag-le : (b : Bool) (t : ℕ) → if b (eqb t 0) (within 1 views t) ≡ true → t ≤ 32
+tag-le : (b : Bool) (t : ℕ) → if b (eqb t 0) (within 1 views t) ≡ true → t ≤ views
 tag-le true t e = omega (arith, eqb-true t 0 e)
-tag-le false t e = leb-true t 32 (both (leb 1 t) (leb t 32) e .1)
+tag-le false t e = leb-true t views (both (leb 1 t) (leb t views) e .1)
 
-pub message-view : (m : Message) → messageInRange m ≡ true → m .view .0 ≤ 32
-unfolding messageInRange messageRule
+pub message-view : (m : Message) → messageInRange m ≡ true → m .view .0 ≤ views
+unfolding messageInRange
 message-view m e =
     let o = both (leb (m .next .0) messages) _ e .1 in
     let p = both (within READ ANSWER (m .kind)) _ o .1 in
@@ -63,12 +58,12 @@ message-view m e =
     tag-le (leb (m .kind) WRITE) (m .view .0) (both (tagRule views (m .kind) (m .view .0)) _ q .0)
 
 -- an administrator in range that is ending has a view after the newest
-ending-lt : (n : ℕ) (x : Ending) → endingInRange n x ≡ true → isEnding x ≡ true → n < 32
+ending-lt : (n : ℕ) (x : Ending) → endingInRange n x ≡ true → isEnding x ≡ true → n < views
 unfolding endFits
 ending-lt n Settled e h = absurd (let z : _≡_ {A = ℕ} 0 1 = cc in omega arith)
-ending-lt n (EndSent r) e h = ltb-true n 32 (both (ltb n views) (numberFits (r .0)) e .0)
+ending-lt n (EndSent r) e h = ltb-true n views (both (ltb n views) (numberFits (r .0)) e .0)
 
-pub ending-newest : (a : Administrator) → administratorInRange a ≡ true → isEnding (a .ending) ≡ true → a .newest .0 < 32
+pub ending-newest : (a : Administrator) → administratorInRange a ≡ true → isEnding (a .ending) ≡ true → a .newest .0 < views
 unfolding administratorInRange
 ending-newest a e h =
     ending-lt (a .newest .0) (a .ending) (both (within 1 views (a .newest .0)) (endingInRange (a .newest .0) (a .ending)) e .1) h

@@ -22,6 +22,9 @@ use protocol::kinds::WRITES;
 use protocol::limits::CLIENTS;
 use protocol::limits::MESSAGES;
 use protocol::limits::VIEWS;
+use protocol::refusals::NO_MESSAGE;
+use protocol::refusals::NOT_APPLICABLE;
+use protocol::refusals::UNFIT;
 use values::entries;
 use values::records;
 ghost use mathlib.Core.Path.{_≡_};
@@ -36,11 +39,11 @@ pub fn serve_rule(a: Server, m: Message, member: bool) -> Served
 {
     let server_ok = ranges::server_in_range(a);
     if !server_ok {
-        return Served::ServeRefused(3);
+        return Served::ServeRefused(UNFIT);
     }
     let message_ok = ranges::message_in_range(m);
     if !message_ok {
-        return Served::ServeRefused(3);
+        return Served::ServeRefused(UNFIT);
     }
     servers::serve(a, m, member)
 }
@@ -51,15 +54,15 @@ pub fn false_answer_rule(a: Server, t: ViewNumber, m: Message, source: bool) -> 
 {
     let server_ok = ranges::server_in_range(a);
     if !server_ok {
-        return 3;
+        return UNFIT;
     }
     let message_ok = ranges::message_in_range(m);
     if !message_ok {
-        return 3;
+        return UNFIT;
     }
     let view_ok = records::view_within(t, ViewNumber(VIEWS));
     if !view_ok {
-        return 3;
+        return UNFIT;
     }
     servers::may_answer(a, t, m, source)
 }
@@ -70,11 +73,11 @@ pub fn write_rule(c: Client, value: u32, n: MessageNumber) -> Begun
 {
     let client_ok = ranges::client_in_range(c);
     if !client_ok {
-        return Begun::BeginRefused(3);
+        return Begun::BeginRefused(UNFIT);
     }
     let number_ok = ranges::number_fits(n);
     if !number_ok {
-        return Begun::BeginRefused(3);
+        return Begun::BeginRefused(UNFIT);
     }
     clients::begin(c, WRITES, value, n)
 }
@@ -85,11 +88,11 @@ pub fn read_rule(c: Client, n: MessageNumber) -> Begun
 {
     let client_ok = ranges::client_in_range(c);
     if !client_ok {
-        return Begun::BeginRefused(3);
+        return Begun::BeginRefused(UNFIT);
     }
     let number_ok = ranges::number_fits(n);
     if !number_ok {
-        return Begun::BeginRefused(3);
+        return Begun::BeginRefused(UNFIT);
     }
     clients::begin(c, READS, 0, n)
 }
@@ -101,20 +104,20 @@ pub fn take_rule(m: Message, r: MessageNumber) -> u8
 {
     let message_ok = ranges::message_in_range(m);
     if !message_ok {
-        return 3;
+        return UNFIT;
     }
     if MESSAGES < r.0 {
-        return 3;
+        return UNFIT;
     }
     let request = m.request;
     if m.kind != ANSWER {
-        return 5;
+        return NO_MESSAGE;
     }
     if m.taken {
-        return 7;
+        return NOT_APPLICABLE;
     }
     if request.0 != r.0 {
-        return 7;
+        return NOT_APPLICABLE;
     }
     0
 }
@@ -137,21 +140,21 @@ pub fn close_rule(c: Client, who: u8, e: Entry, n: MessageNumber) -> Closing
     let phase = c.phase;
     let client_ok = ranges::client_in_range(c);
     if !client_ok {
-        return Closing::CloseRefused(3);
+        return Closing::CloseRefused(UNFIT);
     }
     if who < 1 {
-        return Closing::CloseRefused(3);
+        return Closing::CloseRefused(UNFIT);
     }
     if CLIENTS < who {
-        return Closing::CloseRefused(3);
+        return Closing::CloseRefused(UNFIT);
     }
     let entry_ok = entries::entry_fits(e);
     if !entry_ok {
-        return Closing::CloseRefused(3);
+        return Closing::CloseRefused(UNFIT);
     }
     let number_ok = next_fits(phase, n);
     if !number_ok {
-        return Closing::CloseRefused(3);
+        return Closing::CloseRefused(UNFIT);
     }
     clients::close(c, who, e, n)
 }
@@ -162,11 +165,11 @@ pub fn call_rule(a: Administrator, v: View, n: MessageNumber) -> Called
 {
     let administrator_ok = ranges::administrator_in_range(a);
     if !administrator_ok {
-        return Called::CallRefused(3);
+        return Called::CallRefused(UNFIT);
     }
     let number_ok = ranges::number_fits(n);
     if !number_ok {
-        return Called::CallRefused(3);
+        return Called::CallRefused(UNFIT);
     }
     administrator::call(a, v, n)
 }
@@ -178,11 +181,11 @@ pub fn advance_rule(a: Administrator) -> Called
     let ending = a.ending;
     let administrator_ok = ranges::administrator_in_range(a);
     if !administrator_ok {
-        return Called::CallRefused(3);
+        return Called::CallRefused(UNFIT);
     }
     let busy = administrator::is_ending(ending);
     if !busy {
-        return Called::CallRefused(7);
+        return Called::CallRefused(NOT_APPLICABLE);
     }
     administrator::advance(a)
 }

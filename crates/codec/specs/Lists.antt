@@ -1,13 +1,13 @@
 -- A part of a list, a list with a part replaced, and records of one width one after another. Assumes nothing.
 use mathlib.Core.Path.{_≡_, refl, sym, ap, _∙_}
-use mathlib.Core.List.{List, [], _∷_, _++_, append-assoc}
+use mathlib.Core.List.{List, [], _∷_, _++_, append-assoc, append-nil}
 use Prim.Native.Nat.{ℕ, zero, suc, _+_, _*_, _-_, _≤_, _<_}
-use native.Mathlib.Nat.{not-suc-le-zero, le-of-suc-le-suc, add-sub-cancel-left, zero-mul, suc-mul, mul-comm, add-zero, add-assoc}
+use native.Mathlib.Nat.{not-suc-le-zero, le-of-suc-le-suc, add-sub-cancel-left, zero-mul, suc-mul, mul-comm, add-zero, zero-add, add-assoc}
 use native.Mathlib.Omega.{arith}
-use lib.ListN.{length, take, drop, getD, set, replicate, length-set, length-append, length-take, length-drop, replicate-append-replicate}
+use lib.ListN.{length, take, drop, getD, set, replicate, length-set, length-append, length-take, length-drop, replicate-append-replicate, take-append-drop}
 use Rattle.protocol.specs.Tools.{nth, replace}
 use Rattle.protocol.specs.Worlds.{listTo}
-use lib.Seq.{take-at, drop-at, take-append-add, drop-append-add, take-append-le, drop-append-le, drop-drop, take-add, take-length, getD-take, getD-drop, paste}
+use lib.Seq.{take-at, drop-at, take-append-add, drop-append-add, take-append-le, drop-append-le, drop-drop, take-add, take-take, take-all, take-nil, take-length, drop-length, drop-cons, getD-take, getD-drop, paste, paste-zero, paste-suc}
 
 -- the n elements from at on
 unfoldable pub part : List ℕ → ℕ → ℕ → List ℕ
@@ -32,6 +32,24 @@ length-part l at n h = simp (length-take, length-drop) (omega arith)
 pub getD-part : (l : List ℕ) (at n i : ℕ) → i < n → getD (part l at n) i 0 ≡ getD l (at + i) 0
 unfolding part
 getD-part l at n i h = rw (getD-take, getD-drop)
+
+pub part-one : (l : List ℕ) (i : ℕ) → i < length l → part l i 1 ≡ getD l i 0 ∷ []
+unfolding part
+part-one l i h = ap (take 1) (drop-cons l i 0 h)
+
+drop-take : (i n : ℕ) (l : List ℕ) → i ≤ n → drop i (take n l) ≡ take (n - i) (drop i l)
+drop-take zero n l h = ap (λ (k : ℕ). take k l) (let e : n ≡ n - 0 = omega arith in e)
+drop-take (suc i) zero l h = absurd (not-suc-le-zero h)
+drop-take (suc i) (suc n) [] h = sym (take-nil (suc n - suc i))
+drop-take (suc i) (suc n) (x ∷ xs) h =
+    drop-take i n xs (le-of-suc-le-suc h) ∙ ap (λ (k : ℕ). take k (drop i xs)) (let e : n - i ≡ suc n - suc i = omega arith in e)
+
+pub part-part : (l : List ℕ) (at n i k : ℕ) → i + k ≤ n → part (part l at n) i k ≡ part l (at + i) k
+unfolding part
+part-part l at n i k h =
+    ap (take k) (drop-take i n (drop at l) (omega arith))
+    ∙ take-take k (n - i) (drop i (drop at l)) (omega arith)
+    ∙ ap (take k) (drop-drop i at l)
 
 pub part-add : (l : List ℕ) (at n m : ℕ) → part l at (n + m) ≡ part l at n ++ part l (at + n) m
 unfolding part
@@ -72,6 +90,55 @@ put-put l at vs us h =
     ∙ ap (λ (x : List ℕ). put x (length a + 0) us) (sym (append-assoc (take at l) vs r))
     ∙ put-right a r 0 us
     ∙ simp (append-assoc, length-append, drop-drop, add-zero, add-assoc)
+
+-- ---- what a part that was lent is, and a finished copy
+
+pub span : (l : List ℕ) (at n : ℕ) → take (at + n - at) (drop at l) ≡ part l at n
+unfolding part
+span l at n = ap (λ (k : ℕ). take k (drop at l)) (add-sub-cancel-left at n)
+
+pub pasted : (l : List ℕ) (at : ℕ) (vs : List ℕ) → paste l at vs (length vs) ≡ put l at vs
+unfolding put
+pasted l at vs = rw (take-length, drop-drop (length vs) at l) (simp append-assoc)
+
+-- one element put in, and a list put over a whole one
+pub put-one : (l : List ℕ) (i x : ℕ) → i < length l → set l i x ≡ put l i (x ∷ [])
+put-one l i x h =
+    ap (λ (k : ℕ). set l k x) (sym (add-zero i)) ∙ ap (λ (m : List ℕ). set m (i + 0) x) (paste-zero l i (x ∷ []))
+    ∙ paste-suc l i (x ∷ []) 0 0 (omega arith) (omega arith)
+    ∙ pasted l i (x ∷ [])
+
+pub put-all : (l vs : List ℕ) → length vs ≡ length l → put l 0 vs ≡ vs
+unfolding put
+put-all l vs e = ap (λ (r : List ℕ). vs ++ r) (ap (λ (k : ℕ). drop k l) e ∙ drop-length l) ∙ append-nil vs
+
+-- what was written from place at on, one piece behind the other: m is l with a there
+pub record Wrote (l : List ℕ) (at : ℕ) (a m : List ℕ) : Type 0 where
+  pub room : at ≤ length l
+  pub all : m ≡ put l at a
+
+pub wrote-none : (l : List ℕ) (at : ℕ) → at ≤ length l → Wrote l at [] l
+unfolding put
+wrote-none l at h = record { room = h; all = sym (take-append-drop at l) }
+
+pub wrote : {l a m o : List ℕ} {at : ℕ} (k : ℕ) (b : List ℕ) → Wrote l at a m → o ≡ put m k b → k ≡ at + length a → Wrote l at (a ++ b) o
+wrote {l} {a} {m} {o} {at} k b w e h =
+    record { room = w .room; all = e ∙ rw (w .all, h) (put-put l at a b (w .room)) }
+
+-- what spells the first n bytes of b, one piece behind the other
+pub record Spells (b : List ℕ) (n : ℕ) (a : List ℕ) : Type 0 where
+  pub all : a ≡ part b 0 n
+
+pub spells-none : (b : List ℕ) → Spells b 0 []
+unfolding part
+spells-none b = record { all = refl }
+
+pub spells : {b a v : List ℕ} {n : ℕ} (m : ℕ) → Spells b n a → v ≡ part b n m → Spells b (n + m) (a ++ v)
+spells {b} {a} {v} {n} m s e = record { all = rw (s .all, e) (sym (part-add b 0 n m ∙ ap (λ (k : ℕ). part b 0 n ++ part b k m) (zero-add n))) }
+
+pub spelled : {b a : List ℕ} {n : ℕ} → Spells b n a → length b ≡ n → a ≡ b
+unfolding part
+spelled {b} {a} {n} s e = s .all ∙ take-all n b (omega arith)
 
 -- ---- records of one width, one after another
 
@@ -130,16 +197,6 @@ flat-zeros f w x e zero = rw zero-mul
 flat-zeros f w x e (suc n) =
     let m : suc n * w ≡ w + n * w = omega (arith, suc-mul n w) in
     rw (e, flat-zeros f w x e n, m) (replicate-append-replicate w (n * w) 0)
-
--- ---- what a part that was lent is, and a finished copy
-
-pub span : (l : List ℕ) (at n : ℕ) → take (at + n - at) (drop at l) ≡ part l at n
-unfolding part
-span l at n = ap (λ (k : ℕ). take k (drop at l)) (add-sub-cancel-left at n)
-
-pub pasted : (l : List ℕ) (at : ℕ) (vs : List ℕ) → paste l at vs (length vs) ≡ put l at vs
-unfolding put
-pasted l at vs = rw (take-length, drop-drop (length vs) at l) (simp append-assoc)
 
 -- ---- groups that are numbered from 1
 

@@ -3,37 +3,21 @@ use mathlib.Core.Path.{_≡_, refl, sym, ap, _∙_}
 use mathlib.Core.Bool.{Bool, true}
 use mathlib.Core.List.{List, [], _++_}
 use Prim.Native.Nat.{ℕ, zero, suc, _+_, _*_, _-_, _≤_, _<_}
-use native.Mathlib.Nat.{zero-mul, suc-mul, mul-suc, mul-zero, not-suc-le-zero, le-of-suc-le-suc}
+use native.Mathlib.Nat.{zero-mul, suc-mul, mul-suc, mul-zero, not-suc-le-zero}
 use native.Mathlib.Omega.{arith}
-use native.Mathlib.Decide.{decLt}
-use lib.ListN.{length, length-take, List·getD-eq-default}
+use lib.ListN.{length}
 use lib.Seq.{take-all}
 use lib.Dec.{lit<}
-use Rattle.protocol.specs.Tools.{allTo}
 use Rattle.protocol.specs.Sizes.{clients, servers, views, messages}
 use Rattle.protocol.specs.Worlds.{listTo}
-use Rattle.codec.specs.Layout.{imageSize, headerWidth, viewWidth, serverWidth, clientWidth, messageWidth, viewsAt, serversAt, clientsAt, messagesAt, viewPlace, serverPlace, clientPlace, messagePlace}
-use Rattle.codec.specs.Lists.{part, flat, length-part, getD-part, part-add}
-use Rattle.codec.specs.Bytes.{Bytes}
-use Rattle.codec.specs.Records.{viewBytes, serverBytes, clientBytes, messageBytes, headerBytes, administratorOf}
+use Rattle.codec.specs.Layout.{imageSize, headerWidth, usedPlace, administratorPlace, administratorWidth, viewWidth, serverWidth, clientWidth, messageWidth, viewsAt, serversAt, clientsAt, messagesAt, viewPlace, serverPlace, clientPlace, messagePlace}
+use Rattle.codec.specs.Lists.{part, part-part, flat, length-part, getD-part, part-add}
+use Rattle.codec.specs.Bytes.{Bytes, bytes-part}
+use Rattle.codec.specs.Records.{viewBytes, serverBytes, clientBytes, messageBytes, headerBytes, headerPlain, viewPlain, serverPlain, clientPlain, messagePlain}
 use Rattle.codec.specs.Places.{usedAt, administratorAt, viewAt, serverAt, clientAt, messageAt}
 use Rattle.codec.specs.Images.{encode, decode}
 use Rattle.codec.specs.Laws.{decode-full, part-header, part-view, part-server, part-client, part-message, view-decode, server-decode, client-decode, message-decode}
-use Rattle.codec.specs.Spelling.{both, join, headerPlain, viewPlain, serverPlain, clientPlain, messagePlain, headerOf, header-plain, plain-header, view-plain, plain-view, server-plain, plain-server, client-plain, plain-client, message-plain, plain-message}
-
--- ---- all the numbers 1 to n
-
-pub all-at : (p : ℕ → Bool) (n k : ℕ) → allTo p n ≡ true → 1 ≤ k → k ≤ n → p k ≡ true
-unfolding allTo
-all-at p zero k e l m = absurd (omega arith)
-all-at p (suc n) k e l m =
-    let q = both (allTo p n) (p (suc n)) e in
-    elim (decLt k (suc n)) [ yes h ↦ all-at p n k (q .0) l (le-of-suc-le-suc h) | no h ↦ rw (let s : k ≡ suc n = omega arith in s) (q .1) ]
-
-pub all-of : (p : ℕ → Bool) (n : ℕ) → ((k : ℕ) → 1 ≤ k → k ≤ n → p k ≡ true) → allTo p n ≡ true
-unfolding allTo
-all-of p zero h = refl
-all-of p (suc n) h = join (all-of p n (λ k l m. h k l (omega arith))) (h (suc n) (omega arith) (omega arith))
+use Rattle.codec.specs.Spelling.{headerOf, header-plain, plain-header, view-plain, plain-view, server-plain, plain-server, client-plain, plain-client, message-plain, plain-message}
 
 -- ---- the tests of an image
 
@@ -82,14 +66,6 @@ rejoin f g l w at (suc n) h =
         let y : suc k - 1 ≡ k = omega arith in
         rw (x, y) (omega (arith, mul-suc w k))
 
-short : (l : List ℕ) (a n i : ℕ) → (i < n → ⊥) → length (part l a n) ≤ i
-unfolding part
-short l a n i h = simp length-take (omega arith)
-
-bytes-part : (l : List ℕ) (a n : ℕ) → Bytes l → Bytes (part l a n)
-bytes-part l a n y i =
-    elim (decLt i n) [ yes h ↦ rw (getD-part l a n i h) (y (a + i)) | no h ↦ rw (List·getD-eq-default (part l a n) 0 (short l a n i h)) (omega arith) ]
-
 all : (l : List ℕ) → length l ≡ imageSize → part l 0 imageSize ≡ l
 unfolding part
 all l s = take-all imageSize l (omega arith)
@@ -115,19 +91,12 @@ whole l s =
     (part-add l messagesAt messageWidth (messages * messageWidth))))))
 
 header-same : (l : List ℕ) → headerBytes (usedAt l) (administratorAt l) ≡ headerOf (part l 0 headerWidth)
-unfolding usedAt administratorAt administratorOf
+unfolding usedAt administratorAt
 header-same l =
     rw (
-      getD-part l 0 headerWidth 2 (lit< tt),
-      getD-part l 0 headerWidth 3 (lit< tt),
-      getD-part l 0 headerWidth 4 (lit< tt),
-      getD-part l 0 headerWidth 5 (lit< tt),
-      getD-part l 0 headerWidth 6 (lit< tt),
-      getD-part l 0 headerWidth 7 (lit< tt),
-      getD-part l 4 4 0 (lit< tt),
-      getD-part l 4 4 1 (lit< tt),
-      getD-part l 4 4 2 (lit< tt),
-      getD-part l 4 4 3 (lit< tt),
+      getD-part l 0 headerWidth usedPlace (lit< tt),
+      getD-part l 0 headerWidth (usedPlace + 1) (lit< tt),
+      part-part l 0 headerWidth administratorPlace administratorWidth (omega arith),
     )
 
 head : (l : List ℕ) → headerBytes (decode l .used) (decode l .administrator) ≡ headerOf (part l 0 headerWidth)

@@ -1,28 +1,34 @@
-// Numbers as bytes, the lowest first, and bytes written over a place.
+// Numbers as bytes, the lowest first, and zero bytes: read from a place, written over one.
 ghost use mathlib.Core.Path.{_≡_};
-ghost use Prim.Native.Nat.{_+_, _≤_};
+ghost use mathlib.Core.List.{[], _∷_};
+ghost use Prim.Native.Nat.{_+_, _≤_, _<_};
 ghost use lib.ListN.{length, replicate};
-ghost use Rattle.codec.specs.Bytes.{half, word};
+ghost use Rattle.protocol.specs.Runs.{u16Width, u32Width, u16At, u32At};
+ghost use Rattle.codec.specs.Bytes.{half, le16, le32, zeros};
 ghost use Rattle.codec.specs.Lists.{put};
+use super::layout::U16;
 
-fn wide(x: u8) -> u32
-    ensures { λ r. ⌜ r ≡ x ⌝ }
+fn joined(low: u8, high: u8) -> u16
+    ensures { λ r. ⌜ r ≡ half low high ⌝ }
 {
-    x as u32
+    (low as u16) + 256 * (high as u16)
 }
 
-// The number that two bytes spell.
-pub fn half2(a: u8, b: u8) -> u16
-    ensures { λ r. ⌜ r ≡ half a b ⌝ }
+// "little-endian"
+pub fn get16(b: &[u8], at: usize) -> u16
+    requires { ⌜ at + u16Width ≤ length (now b) ⌝ }
+    ensures { λ r. ⌜ r ≡ u16At (now (b .entry)) at ⌝ }
 {
-    (a as u16) + 256 * (b as u16)
+    joined(b[at], b[at + 1])
 }
 
-// The number that four bytes spell.
-pub fn word4(a: u8, b: u8, c: u8, d: u8) -> u32
-    ensures { λ r. ⌜ r ≡ word a b c d ⌝ }
+pub fn get32(b: &[u8], at: usize) -> u32
+    requires { ⌜ at + u32Width ≤ length (now b) ⌝ }
+    ensures { λ r. ⌜ r ≡ u32At (now (b .entry)) at ⌝ }
 {
-    wide(a) + 256 * wide(b) + 65536 * (wide(c) + 256 * wide(d))
+    let low = get16(b, at);
+    let high = get16(b, at + U16);
+    (low as u32) + 65536 * (high as u32)
 }
 
 // Writes src over the bytes of image from at on.
@@ -33,6 +39,57 @@ pub fn put_bytes(image: &mut [u8], at: usize, src: &[u8])
     for i in 0..src.len() {
         image[at + i] = src[i];
     }
+}
+
+pub fn put8(image: &mut [u8], at: usize, n: u8)
+    requires { ⌜ at < length (now image) ⌝ }
+    ensures { λ _. ⌜ now (image .exit) ≡ put (now (image .entry)) at (n ∷ []) ⌝ }
+{
+    image[at] = n;
+}
+
+pub fn put16(image: &mut [u8], at: usize, n: u16)
+    requires { ⌜ at + u16Width ≤ length (now image) ⌝ }
+    ensures { λ _. ⌜ now (image .exit) ≡ put (now (image .entry)) at (le16 n) ⌝ }
+{
+    let b = [(n % 256) as u8, (n / 256 % 256) as u8];
+    put_bytes(image, at, &b);
+}
+
+pub fn put32(image: &mut [u8], at: usize, n: u32)
+    requires { ⌜ at + u32Width ≤ length (now image) ⌝ }
+    ensures { λ _. ⌜ now (image .exit) ≡ put (now (image .entry)) at (le32 n) ⌝ }
+{
+    let b = [
+        (n % 256) as u8,
+        (n / 256 % 256) as u8,
+        (n / 256 / 256 % 256) as u8,
+        (n / 256 / 256 / 256 % 256) as u8,
+    ];
+    put_bytes(image, at, &b);
+}
+
+// Writes n zero bytes.
+pub fn put_zeros(image: &mut [u8], at: usize, n: usize)
+    requires { ⌜ at + n ≤ length (now image) ⌝ }
+    ensures { λ _. ⌜ now (image .exit) ≡ put (now (image .entry)) at (replicate n 0) ⌝ }
+{
+    for i in 0..n {
+        image[at + i] = 0;
+    }
+}
+
+// Whether the n bytes from at on are zero.
+pub fn are_zero(b: &[u8], at: usize, n: usize) -> bool
+    requires { ⌜ at + n ≤ length (now b) ⌝ }
+    ensures { λ r. ⌜ r ≡ zeros (now (b .entry)) at n ⌝ }
+{
+    for i in 0..n {
+        if b[at + i] != 0 {
+            return false;
+        }
+    }
+    true
 }
 
 // Sets every byte to zero.

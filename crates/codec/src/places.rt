@@ -5,8 +5,8 @@ ghost use lib.ListN.{length};
 ghost use Rattle.protocol.specs.Sizes.{clients, servers, views, messages};
 ghost use Rattle.codec.specs.Layout.{imageSize};
 ghost use Rattle.codec.specs.Places.{usedAt, putUsed, administratorAt, putAdministrator, viewAt, putView, serverAt, putServer, clientAt, putClient, messageAt, putMessage};
-use super::bytes::half2;
-use super::bytes::put_bytes;
+use super::bytes::get16;
+use super::bytes::put16;
 use super::layout::ADMINISTRATOR;
 use super::layout::ADMINISTRATOR_AT;
 use super::layout::CLIENT;
@@ -18,17 +18,16 @@ use super::layout::SERVERS_AT;
 use super::layout::USED_AT;
 use super::layout::VIEW;
 use super::layout::VIEWS_AT;
-use super::records::administrator_bytes;
-use super::records::client_head;
-use super::records::entry_bytes;
-use super::records::message_head;
 use super::records::read_administrator;
 use super::records::read_client;
 use super::records::read_message;
 use super::records::read_server;
 use super::records::read_view;
-use super::records::server_head;
-use super::records::view_bytes;
+use super::records::write_administrator;
+use super::records::write_client;
+use super::records::write_message;
+use super::records::write_server;
+use super::records::write_view;
 use protocol::Administrator;
 use protocol::Client;
 use protocol::Message;
@@ -43,15 +42,14 @@ pub fn load_used(image: &[u8]) -> u16
     requires { ⌜ length (now image) ≡ imageSize ⌝ }
     ensures { λ r. ⌜ r ≡ usedAt (now (image .entry)) ⌝ }
 {
-    half2(image[USED_AT], image[USED_AT + 1])
+    get16(image, USED_AT)
 }
 
 pub fn store_used(image: &mut [u8], n: u16)
     requires { ⌜ length (now image) ≡ imageSize ⌝ }
     ensures { λ _. ⌜ now (image .exit) ≡ putUsed (now (image .entry)) n ⌝ }
 {
-    let b = [(n % 256) as u8, (n / 256 % 256) as u8];
-    put_bytes(image, USED_AT, &b);
+    put16(image, USED_AT, n);
 }
 
 pub fn load_administrator(image: &[u8]) -> Administrator
@@ -65,8 +63,7 @@ pub fn store_administrator(image: &mut [u8], a: Administrator)
     requires { ⌜ length (now image) ≡ imageSize ⌝ }
     ensures { λ _. ⌜ now (image .exit) ≡ putAdministrator (now (image .entry)) a ⌝ }
 {
-    let b = administrator_bytes(a);
-    put_bytes(image, ADMINISTRATOR_AT, &b);
+    write_administrator(image, ADMINISTRATOR_AT, a);
 }
 
 pub fn load_view(image: &[u8], t: ViewNumber) -> View
@@ -83,8 +80,7 @@ pub fn store_view(image: &mut [u8], t: ViewNumber, v: View)
     ensures { λ _. ⌜ now (image .exit) ≡ putView (now (image .entry)) (t .0) v ⌝ }
 {
     let n = t.0;
-    let b = view_bytes(v);
-    put_bytes(image, VIEWS_AT + VIEW * (n as usize - 1), &b);
+    write_view(image, VIEWS_AT + VIEW * (n as usize - 1), v);
 }
 
 pub fn load_server(image: &[u8], s: ServerNumber) -> Server
@@ -102,11 +98,7 @@ pub fn store_server(image: &mut [u8], s: ServerNumber, v: Server)
 {
     let n = s.0;
     let at = SERVERS_AT + SERVER * (n as usize - 1);
-    let head = server_head(v);
-    let entry = v.entry;
-    let tail = entry_bytes(entry);
-    put_bytes(image, at, &head);
-    put_bytes(image, at + 8, &tail);
+    write_server(image, at, v);
 }
 
 pub fn load_client(image: &[u8], c: u8) -> Client
@@ -122,11 +114,7 @@ pub fn store_client(image: &mut [u8], c: u8, v: Client)
     ensures { λ _. ⌜ now (image .exit) ≡ putClient (now (image .entry)) c v ⌝ }
 {
     let at = CLIENTS_AT + CLIENT * (c as usize - 1);
-    let head = client_head(v);
-    let entry = v.entry;
-    let tail = entry_bytes(entry);
-    put_bytes(image, at, &head);
-    put_bytes(image, at + 4, &tail);
+    write_client(image, at, v);
 }
 
 pub fn load_message(image: &[u8], n: MessageNumber) -> Message
@@ -144,9 +132,5 @@ pub fn store_message(image: &mut [u8], n: MessageNumber, m: Message)
 {
     let k = n.0;
     let at = MESSAGES_AT + MESSAGE * (k as usize);
-    let head = message_head(m);
-    let entry = m.entry;
-    let tail = entry_bytes(entry);
-    put_bytes(image, at, &head);
-    put_bytes(image, at + 8, &tail);
+    write_message(image, at, m);
 }

@@ -1,4 +1,6 @@
-pub mod Steps
 pub mod Runs
 pub mod Worlds
+pub mod Kept
+pub mod Journals
 pub mod Theorem
+pub mod Refusals

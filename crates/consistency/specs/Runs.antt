@@ -1,4 +1,5 @@
--- Runs of images, and their operations. Assumes nothing.
+-- Runs of images, and their operations: `runFrom` an image by a list of byte strings, each a step, and the `history` that the claim
+-- judges. As `run` and `history` of worlds in protocol/specs/Runs.antt; Worlds.antt has the laws. Assumes nothing.
 use Prim.Native.Nat.{ℕ, _+_}
 use mathlib.Core.List.{List, [], _∷_, _++_, map}
 use Rattle.protocol.specs.Tools.{Result, refused, done}
@@ -6,7 +7,7 @@ use Rattle.protocol.specs.Steps.{After}
 use Rattle.protocol.specs.Consistent.{Operation}
 use Rattle.protocol.specs.Runs.{stepOf, Tracked, tracked, started, operation}
 use Rattle.codec.specs.Images.{decode}
-use Rattle.consistency.specs.Steps.{stepOn, leftBy}
+use Rattle.image.specs.Steps.{stepOn, leftBy}
 
 -- a run: its image, the place of its next step, and its operations in the order of their beginning
 pub record Run : Type 0 where

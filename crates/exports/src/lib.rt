@@ -1,25 +1,28 @@
 // The C interface. Every answer is refusal + 256 * result.
 ghost use mathlib.Core.Path.{_≡_};
+ghost use Prim.Native.Nat.{_+_, _*_, _≤_};
 ghost use Rattle.protocol.specs.Sizes.{quorumSize};
 ghost use Rattle.image.specs.Fresh.{freshOn};
 ghost use Rattle.image.specs.Premise.{premiseOn};
-ghost use Rattle.consistency.specs.Steps.{stepOn, leftBy, answered};
-ghost use Rattle.journal.specs.Replays.{replayOn};
+ghost use Rattle.image.specs.Steps.{stepOn, leftBy, answered, replayOn, resumeOn};
+ghost use Rattle.bounds.specs.Progress.{limit};
 ghost use Rattle.exports.specs.Answers.{packed, flagged, packedReplay};
 ghost use Rattle.single.specs.Calls.{serverCall, replied, serverLeft, clientCall, completed, clientLeft, administratorCall, accepted, administratorLeft};
+use codec::records::write_administrator;
+use codec::records::write_client;
+use codec::records::write_server;
 use image::fresh::fresh;
 use image::premise::Report;
 use image::premise::premise;
+use journal::Replayed;
 use journal::replay::replay;
+use journal::replay::resume;
 use protocol::Called;
 use protocol::Closing;
 use protocol::Served;
 use single::calls::administrator_call;
 use single::calls::client_call;
 use single::calls::server_call;
-use single::records::write_administrator;
-use single::records::write_client;
-use single::records::write_server;
 use values::sizes::QuorumSize;
 use values::sizes::quorum_size;
 use world::Stepped;
@@ -70,16 +73,34 @@ pub extern "C" fn zw_premise(image: &[u8]) -> u64
     }
 }
 
-// "Replay (image, journal)": refusal, steps done; they fit, as no world accepts more than 3,102.
+// The answer of a replay; its steps fit, as no world accepts more than 3,102.
+fn packed(done: Replayed) -> u64
+    requires { ⌜ done .steps ≤ limit ⌝ }
+    ensures { λ r. ⌜ r ≡ done .refusal + 256 * done .steps ⌝ }
+{
+    done.refusal as u64 + 256 * (done.steps as u64)
+}
+
+// "Replay (image, journal)": refusal, steps done.
 #[no_mangle]
 pub extern "C" fn zw_replay(image: &mut [u8], journal: &[u8]) -> u64
     ensures { λ r. ⌜ (r ≡ packedReplay (replayOn (now (image .entry)) (now (journal .entry)))) × (now (image .exit) ≡ replayOn (now (image .entry)) (now (journal .entry)) .image) ⌝ }
 {
     let done = replay(image, journal);
-    done.refusal as u64 + 256 * (done.steps as u64)
+    packed(done)
 }
 
-// A server's rule on its record: refusal, 1 if it answers.
+// "The rest of the journal after the last accepted step can be replayed": what is left of it after its first steps. Refusal, steps
+// done; 1, it has fewer.
+#[no_mangle]
+pub extern "C" fn zw_resume(image: &mut [u8], journal: &[u8], steps: u64) -> u64
+    ensures { λ r. ⌜ (r ≡ packedReplay (resumeOn (now (image .entry)) (now (journal .entry)) steps)) × (now (image .exit) ≡ resumeOn (now (image .entry)) (now (journal .entry)) steps .image) ⌝ }
+{
+    let done = resume(image, journal, steps as usize);
+    packed(done)
+}
+
+// A server's rule on its record: refusal, 1 if it answers what reached it; 0 for a false answer.
 #[no_mangle]
 pub extern "C" fn zw_server(server: &mut [u8], call: &[u8]) -> u64
     ensures { λ r. ⌜ (r ≡ packed (replied (serverCall (now (server .entry)) (now (call .entry))))) × (now (server .exit) ≡ serverLeft (now (server .entry)) (serverCall (now (server .entry)) (now (call .entry)))) ⌝ }
@@ -88,11 +109,11 @@ pub extern "C" fn zw_server(server: &mut [u8], call: &[u8]) -> u64
     match reply {
         Served::ServeRefused(x) => x as u64,
         Served::Kept(a) => {
-            write_server(server, a);
+            write_server(server, 0, a);
             0
         }
         Served::Answered(a, _) => {
-            write_server(server, a);
+            write_server(server, 0, a);
             256
         }
     }
@@ -107,11 +128,11 @@ pub extern "C" fn zw_client(client: &mut [u8], call: &[u8]) -> u64
     match step {
         Closing::CloseRefused(x) => x as u64,
         Closing::WritesNext(c) => {
-            write_client(client, c);
+            write_client(client, 0, c);
             0
         }
         Closing::Completed(c) => {
-            write_client(client, c);
+            write_client(client, 0, c);
             256
         }
     }
@@ -126,7 +147,7 @@ pub extern "C" fn zw_administrator(administrator: &mut [u8], call: &[u8]) -> u64
     match step {
         Called::CallRefused(x) => x as u64,
         Called::Calling(a) => {
-            write_administrator(administrator, a);
+            write_administrator(administrator, 0, a);
             0
         }
     }

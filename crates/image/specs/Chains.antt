@@ -8,16 +8,15 @@ use native.Mathlib.Omega.{arith}
 use lib.ListN.{length}
 use lib.Dec.{eqb}
 use borrow.Author.Tests.{eqb-true, eq-eqb, le-leb}
-use Rattle.protocol.specs.Tools.{if, bit, within, countTo, allTo, any, all}
+use Rattle.protocol.specs.Tools.{if, bit, within, countTo, allTo, any, all, both, join, sumTo}
 use Rattle.protocol.specs.Sizes.{messages}
 use Rattle.protocol.specs.Servers.{ANSWER, isRequest}
 use Rattle.protocol.specs.Worlds.{World, message, present}
 use Rattle.protocol.specs.Chains.{follow, chain}
 use Rattle.protocol.specs.Readable.{takenAnswer, distinct, ends, chainFits, messageFits}
-use Rattle.codec.specs.Spelling.{both, join}
-use Rattle.codec.specs.Whole.{all-at, all-of}
-use Rattle.image.specs.Tests.{by-test, as-one, clash, or-cases, implied}
-use Rattle.image.specs.Counts.{Each, sumTo, count-le, count-ext, count-none, count-same, count-one, count-list, sum-same, sum-ext, swap}
+use Rattle.protocol.specs.Laws.Tests.{by-test, clash, or-cases, allTo-at, all-to}
+use Rattle.image.specs.Tests.{as-one, implied}
+use Rattle.image.specs.Counts.{Each, count-mono, count-ext, count-none, count-same, count-one, count-list, sum-same, sum-ext, swap}
 use Rattle.image.specs.Links.{Ended, once}
 use Rattle.image.specs.Formed.{sent-at, taken-answer, in-present, present-in}
 
@@ -86,7 +85,7 @@ parts-sound w r left n s = join (s .only) (eq-eqb _ _ (s .ended .same))
 
 all-any : (p : ℕ → Bool) (l : List ℕ) (k : ℕ) → all p l ≡ true → any (eqb k) l ≡ true → p k ≡ true
 unfolding all any
-all-any p [] k a i = clash false i refl
+all-any p [] k a i = clash i refl
 all-any p (x ∷ l) k a i =
     let b = both (p x) (all p l) a in
     ⊎-elim (λ e. rw (eqb-true k x e) (b .0)) (λ j. all-any p l k (b .1) j) (or-cases (eqb k x) (any (eqb k) l) i)
@@ -142,7 +141,7 @@ module _ (w : World) (r : ℕ) where
       (record {
         one = λ k l m.
             as-one (any (eqb k) (chain w r)) (takenAnswer w r k) (λ i. all-any (takenAnswer w r) (chain w r) k (c .only) i)
-            (λ t. implied (takenAnswer w r k) (any (eqb k) (chain w r)) (all-at _ (w .used) k (c .every) l m) t);
+            (λ t. implied (takenAnswer w r k) (any (eqb k) (chain w r)) (allTo-at _ (w .used) k (c .every) l m) t);
       })
 
 -- each taken answer is one of exactly one request
@@ -173,7 +172,7 @@ module _ (w : World) (h : Each (w .used) (λ k. messageFits w k ≡ true)) where
       (record {
         one = λ r x y.
             by-test {P = asks r && takenAnswer w r k ≡ false} (asks r && takenAnswer w r k)
-            (λ e. clash (message w k .taken) (taken-parts w r k (both (asks r) (takenAnswer w r k) e .1) .taken) t)
+            (λ e. clash (taken-parts w r k (both (asks r) (takenAnswer w r k) e .1) .taken) t)
             (λ e. e);
       })
       ∙ sym (ap bit t))
@@ -191,16 +190,16 @@ module _ (w : World) (h : Each (w .used) (λ k. messageFits w k ≡ true)) where
   unfolding chainsFit chainSound chain
   fit-sound e =
       join
-      (all-of (chainSound w) (w .used)
+      (all-to (chainSound w) (w .used)
       (λ r l m.
       by-test {P = chainSound w r ≡ true} (asks r)
       (λ q.
-      let c = chain-parts w r (all-at (chainFits w) (w .used) r e l m) q in
+      let c = chain-parts w r (allTo-at (chainFits w) (w .used) r e l m) q in
       rw q (parts-sound w r messages (message w r .next .0) (record { only = c .only; ended = c .ended })))
       (λ q. rw q)))
       (eq-eqb (sumTo (links w) (w .used)) (countTo (isTaken w) (w .used))
       (sum-ext (links w) (λ r. if (asks r) (countTo (takenAnswer w r) (w .used)) 0) (w .used)
-      (record { one = λ r l m. links-counted r (λ q. chain-parts w r (all-at (chainFits w) (w .used) r e l m) q) })
+      (record { one = λ r l m. links-counted r (λ q. chain-parts w r (allTo-at (chainFits w) (w .used) r e l m) q) })
       ∙ all-taken))
 
   -- a sound chain of a request meets no answer twice
@@ -219,7 +218,7 @@ module _ (w : World) (h : Each (w .used) (λ k. messageFits w k ≡ true)) where
       by-test {P = if (asks r) (length (chain w r)) 0 ≤ if (asks r) (countTo (takenAnswer w r) (w .used)) 0} (asks r)
       (λ q.
       let s = sound-links r e q in
-      rw q (let c = count-le (λ k. any (eqb k) (chain w r)) (takenAnswer w r) (w .used) (members-taken r (s .0)) in omega (arith, members w r (s .0) (s .1))))
+      rw q (let c = count-mono (λ k. any (eqb k) (chain w r)) (takenAnswer w r) (w .used) (members-taken r (s .0)) in omega (arith, members w r (s .0) (s .1))))
       (λ q. rw q (omega arith))
 
   sound-chain : (r : ℕ) → chainSound w r ≡ true → links w r ≡ if (asks r) (countTo (takenAnswer w r) (w .used)) 0 → asks r ≡ true → Chain w r
@@ -231,7 +230,7 @@ module _ (w : World) (h : Each (w .used) (λ k. messageFits w k ≡ true)) where
       record {
         ended = s .2;
         only = s .0;
-        every = all-of (λ k. not (takenAnswer w r k) || any (eqb k) (chain w r)) (w .used) (λ k l m. held (takenAnswer w r k) (any (eqb k) (chain w r)) (t .one k l m));
+        every = all-to (λ k. not (takenAnswer w r k) || any (eqb k) (chain w r)) (w .used) (λ k l m. held (takenAnswer w r k) (any (eqb k) (chain w r)) (t .one k l m));
         once = s .1;
       }
 
@@ -241,9 +240,9 @@ module _ (w : World) (h : Each (w .used) (λ k. messageFits w k ≡ true)) where
       let a = both (allTo (chainSound w) (w .used)) (eqb (sumTo (links w) (w .used)) (countTo (isTaken w) (w .used))) e in
       let f = eqb-true (sumTo (links w) (w .used)) (countTo (isTaken w) (w .used)) (a .1) ∙ sym all-taken in
       let s = sum-same (links w) (λ r. if (asks r) (countTo (takenAnswer w r) (w .used)) 0) (w .used)
-      (record { one = λ r l m. links-le r (all-at (chainSound w) (w .used) r (a .0) l m) }) f in
-      all-of (chainFits w) (w .used)
-      (λ r l m. parts-chain w r (sound-chain r (all-at (chainSound w) (w .used) r (a .0) l m) (s .one r l m)))
+      (record { one = λ r l m. links-le r (allTo-at (chainSound w) (w .used) r (a .0) l m) }) f in
+      all-to (chainFits w) (w .used)
+      (λ r l m. parts-chain w r (sound-chain r (allTo-at (chainSound w) (w .used) r (a .0) l m) (s .one r l m)))
 
   -- "each chain holds only taken answers of its request, all of them, each one time"
   pub chains-fit : allTo (chainFits w) (w .used) ≡ chainsFit w

@@ -8,14 +8,8 @@ use native.Mathlib.Decide.{decLt}
 use lib.ListN.{length}
 use lib.Dec.{eqb, leb}
 use borrow.Author.Tests.{eqb-true, eq-eqb, ne-eqb, not-true, leb-true}
-use Rattle.protocol.specs.Tools.{if, bit, within, countTo, any, all}
+use Rattle.protocol.specs.Tools.{if, bit, within, countTo, sumTo, any, all, both}
 use Rattle.protocol.specs.Readable.{distinct}
-use Rattle.codec.specs.Spelling.{both}
-
--- the sum of g 1 to g n
-unfoldable pub sumTo : (ℕ → ℕ) → ℕ → ℕ
-sumTo g zero = 0
-sumTo g (suc n) = sumTo g n + g (suc n)
 
 -- what holds of each of the numbers 1 to n
 pub record Each (n : ℕ) (P : ℕ → Type 0) : Type 0 where
@@ -41,11 +35,11 @@ bit-imp true b f = rw (f refl) (omega arith)
 bit-imp false true f = omega arith
 bit-imp false false f = omega arith
 
-pub count-le : (p q : ℕ → Bool) (n : ℕ) → Each n (λ k. p k ≡ true → q k ≡ true) → countTo p n ≤ countTo q n
+pub count-mono : (p q : ℕ → Bool) (n : ℕ) → Each n (λ k. p k ≡ true → q k ≡ true) → countTo p n ≤ countTo q n
 unfolding countTo
-count-le p q zero h = omega arith
-count-le p q (suc n) h =
-    let ih = count-le p q n (less h) in
+count-mono p q zero h = omega arith
+count-mono p q (suc n) h =
+    let ih = count-mono p q n (less h) in
     omega (arith, bit-imp (p (suc n)) (q (suc n)) (top h))
 
 pub count-ext : (p q : ℕ → Bool) (n : ℕ) → Each n (λ k. p k ≡ q k) → countTo p n ≡ countTo q n
@@ -68,7 +62,7 @@ pub count-same : (p q : ℕ → Bool) (n : ℕ) → Each n (λ k. p k ≡ true �
 unfolding countTo
 count-same p q zero h e = record { one = λ k l m. absurd (omega arith) }
 count-same p q (suc n) h e =
-    let a = count-le p q n (less h) in
+    let a = count-mono p q n (less h) in
     let b = bit-imp (p (suc n)) (q (suc n)) (top h) in
     upto n (count-same p q n (less h) (omega arith)) (bit-same (p (suc n)) (q (suc n)) (omega arith))
 

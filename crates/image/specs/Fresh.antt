@@ -1,7 +1,7 @@
 -- The fresh world's image. Assumes nothing.
 use mathlib.Core.Path.{_≡_, refl, sym, ap, _∙_}
 use mathlib.Core.Bool.{false}
-use mathlib.Core.List.{List, [], _∷_, _++_}
+use mathlib.Core.List.{List, _++_}
 use Prim.Native.Nat.{ℕ, zero, suc, _+_, _*_, _-_, _≤_}
 use native.Mathlib.Nat.{not-suc-le-zero}
 use native.Mathlib.Numerals.{add-one}
@@ -18,9 +18,10 @@ use Rattle.protocol.specs.Tools.{nth, replace, Result, refused, done, guard}
 use Rattle.protocol.specs.Sizes.{clients, servers, views, messages}
 use Rattle.protocol.specs.Entries.{empty}
 use Rattle.protocol.specs.Worlds.{World, withView, withServer, noView, noServer, noClient, noMessage, freshServer, listTo, freshWorld, fresh}
-use Rattle.codec.specs.Layout.{imageSize, headerWidth, viewWidth, serverWidth, clientWidth, messageWidth}
+use Rattle.codec.specs.Layout.{version, versionPlace, imageSize, headerWidth, viewWidth, serverWidth, clientWidth, messageWidth}
+use Rattle.codec.specs.Bytes.{le16}
 use Rattle.codec.specs.Lists.{put, flat, flat-zeros, listTo-nth, length-replace}
-use Rattle.codec.specs.Records.{headerBytes, administratorBytes, viewBytes, serverBytes, serverHead, clientBytes, clientHead, messageBytes, messageHead, entryBytes}
+use Rattle.codec.specs.Records.{headerBytes, administratorBytes, viewBytes, serverBytes, clientBytes, messageBytes, entryBytes}
 use Rattle.codec.specs.Places.{putView, putServer, putAdministrator}
 use Rattle.codec.specs.Images.{encode}
 use Rattle.codec.specs.Laws.{Full, put-view, put-server, full-view, full-server}
@@ -40,7 +41,7 @@ freshOn i bits f = outcome i (guard (eqb (length i) imageSize) 1 (fresh bits f))
 
 -- a correct server with the empty entry
 abbrev pub idleServer : ℕ → ℕ → Server
-idleServer view keys = record { view = record { 0 = view }; faulty = false; keys = keys; entry = empty }
+idleServer view keys = record { view = record { 0 = view }; faulty = false; keys = record { 0 = keys }; entry = empty }
 
 -- the servers 1 to n stored one after another
 unfoldable pub seeded : List ℕ → ℕ → ℕ → List ℕ
@@ -138,7 +139,7 @@ blank-full =
     }
 
 -- version and newest view in n more zeros
-headed-zeros : (n : ℕ) → putAdministrator (put (replicate (headerWidth + n) 0) 0 (1 ∷ 0 ∷ [])) firstView ≡ headerBytes 0 firstView ++ replicate n 0
+headed-zeros : (n : ℕ) → putAdministrator (put (replicate (headerWidth + n) 0) versionPlace (le16 version)) firstView ≡ headerBytes 0 firstView ++ replicate n 0
 unfolding putAdministrator put headerBytes administratorBytes
 headed-zeros n = rw (← replicate-append-replicate {A = ℕ} headerWidth n 0)
 
@@ -159,36 +160,36 @@ zeros4 a b c d =
 zero-groups : (n m k j : ℕ)
     → flat viewBytes (replicate n noView) ++ (flat serverBytes (replicate m noServer) ++ (flat clientBytes (replicate k noClient) ++ flat messageBytes (replicate j noMessage)))
     ≡ replicate (n * viewWidth + (m * serverWidth + (k * clientWidth + j * messageWidth))) 0
-unfolding viewBytes serverBytes serverHead clientBytes clientHead messageBytes messageHead entryBytes
+unfolding viewBytes serverBytes clientBytes messageBytes entryBytes
 zero-groups n m k j =
     join4 (flat-zeros viewBytes viewWidth noView refl n) (flat-zeros serverBytes serverWidth noServer refl m) (flat-zeros clientBytes clientWidth noClient refl k)
     (flat-zeros messageBytes messageWidth noMessage refl j)
     ∙ zeros4 (n * viewWidth) (m * serverWidth) (k * clientWidth) (j * messageWidth)
 
-blank-image : putAdministrator (put (replicate imageSize 0) 0 (1 ∷ 0 ∷ [])) firstView ≡ encode blank
+blank-image : putAdministrator (put (replicate imageSize 0) versionPlace (le16 version)) firstView ≡ encode blank
 unfolding encode blank
 blank-image =
     headed-zeros (imageSize - headerWidth) ∙ ap (λ (l : List ℕ). headerBytes 0 firstView ++ l) (sym (zero-groups views servers clients (suc messages)))
 
-seeded-fresh : (v : View) → seededWorld (withView blank 1 v) (v .members) servers ≡ freshWorld v
+seeded-fresh : (v : View) → seededWorld (withView blank 1 v) (v .members .0) servers ≡ freshWorld v
 unfolding withView blank freshWorld replace
 seeded-fresh v =
-    seeded-servers (withView blank 1 v) (v .members) servers
-    ∙ rw (← seeded-list (replicate servers noServer) (v .members) (length-replicate servers noServer))
+    seeded-servers (withView blank 1 v) (v .members .0) servers
+    ∙ rw (← seeded-list (replicate servers noServer) (v .members .0) (length-replicate servers noServer))
 
 -- "Members hold view 1, key 1 and the empty entry; all else is zero but version and newest view 1."
 fresh-image : (v : View)
-    → seeded (putView (putAdministrator (put (replicate imageSize 0) 0 (1 ∷ 0 ∷ [])) firstView) 1 v) (v .members) servers ≡ encode (freshWorld v)
+    → seeded (putView (putAdministrator (put (replicate imageSize 0) versionPlace (le16 version)) firstView) 1 v) (v .members .0) servers ≡ encode (freshWorld v)
 fresh-image v =
-    ap (λ (i : List ℕ). seeded (putView i 1 v) (v .members) servers) blank-image
-    ∙ ap (λ (i : List ℕ). seeded i (v .members) servers) (put-view blank blank-full 1 (omega arith) (omega arith) v)
-    ∙ seeded-encode (withView blank 1 v) (full-view blank blank-full 1 v) (v .members) servers (omega arith)
+    ap (λ (i : List ℕ). seeded (putView i 1 v) (v .members .0) servers) blank-image
+    ∙ ap (λ (i : List ℕ). seeded i (v .members .0) servers) (put-view blank blank-full 1 (omega arith) (omega arith) v)
+    ∙ seeded-encode (withView blank 1 v) (full-view blank blank-full 1 v) (v .members .0) servers (omega arith)
     ∙ ap encode (seeded-fresh v)
 
 pub fresh-stored : (i : List ℕ) (v : View) → length i ≡ imageSize
-    → seeded (putView (putAdministrator (put (replicate (length i) 0) 0 (1 ∷ 0 ∷ [])) firstView) 1 v) (v .members) servers ≡ encode (freshWorld v)
+    → seeded (putView (putAdministrator (put (replicate (length i) 0) versionPlace (le16 version)) firstView) 1 v) (v .members .0) servers ≡ encode (freshWorld v)
 fresh-stored i v e =
-    ap (λ (n : ℕ). seeded (putView (putAdministrator (put (zeros n) 0 (1 ∷ 0 ∷ [])) firstView) 1 v) (v .members) servers) e ∙ fresh-image v
+    ap (λ (n : ℕ). seeded (putView (putAdministrator (put (zeros n) versionPlace (le16 version)) firstView) 1 v) (v .members .0) servers) e ∙ fresh-image v
 
 pub seeded-start : (l : List ℕ) (bits : ℕ) → seeded l bits 0 ≡ l
 unfolding seeded

@@ -5,8 +5,10 @@ pub mod Formed
 pub mod Chains
 pub mod Readable
 pub mod Scan
+pub mod Beyond
 pub mod Loops
 pub mod Walks
 pub mod Fresh
 pub mod Premise
-pub mod Begun
+pub mod Steps
+pub mod Worlds

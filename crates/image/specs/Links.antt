@@ -1,6 +1,6 @@
 -- A walk along links that ends meets no number twice. Assumes nothing.
 use mathlib.Core.Path.{_≡_, refl, ap}
-use mathlib.Core.Bool.{Bool, true, false, not}
+use mathlib.Core.Bool.{Bool, true, not}
 use mathlib.Core.Logic.{_⊎_, inl, inr, ⊎-elim}
 use mathlib.Core.List.{List, [], _∷_}
 use Prim.Native.Nat.{ℕ, zero, suc, _≤_}
@@ -8,12 +8,11 @@ use native.Mathlib.Omega.{arith}
 use lib.ListN.{length}
 use lib.Dec.{eqb}
 use borrow.Author.Tests.{eqb-true}
-use Rattle.protocol.specs.Tools.{any, all}
+use Rattle.protocol.specs.Tools.{any, all, both, join}
 use Rattle.protocol.specs.Worlds.{World, message}
 use Rattle.protocol.specs.Chains.{follow}
 use Rattle.protocol.specs.Readable.{distinct}
-use Rattle.codec.specs.Spelling.{both, join}
-use Rattle.image.specs.Tests.{by-test, clash, or-cases}
+use Rattle.protocol.specs.Laws.Tests.{by-test, clash, or-cases}
 
 -- one more link allowed meets no more
 pub record Ended (w : World) (left n : ℕ) : Type 0 where
@@ -54,8 +53,8 @@ stable w (suc left) (suc n) (suc more) e h = ap (λ (l : List ℕ). suc n ∷ l)
 shorter : (w : World) (left n more x : ℕ) → Ended w left n → left ≤ more → any (eqb x) (follow w left n) ≡ true
     → length (follow w more x) ≤ length (follow w left n)
 unfolding follow any
-shorter w zero zero more x e h i = clash false i refl
-shorter w (suc left) zero more x e h i = clash false i refl
+shorter w zero zero more x e h i = clash i refl
+shorter w (suc left) zero more x e h i = clash i refl
 shorter w zero (suc n) more x e h i = stuck w n e
 shorter w (suc left) (suc n) more x e h i =
     ⊎-elim
@@ -92,8 +91,8 @@ first-met w p (suc left) (suc n) e a = inr (both (p (suc n)) (all p (follow w le
 pub next-met : (w : World) (p : ℕ → Bool) (left n x : ℕ) → Ended w left n → all p (follow w left n) ≡ true → any (eqb x) (follow w left n) ≡ true
     → (next w x ≡ 0) ⊎ (p (next w x) ≡ true)
 unfolding follow all any
-next-met w p zero zero x e a i = clash false i refl
-next-met w p (suc left) zero x e a i = clash false i refl
+next-met w p zero zero x e a i = clash i refl
+next-met w p (suc left) zero x e a i = clash i refl
 next-met w p zero (suc n) x e a i = stuck w n e
 next-met w p (suc left) (suc n) x e a i =
     let q = both (p (suc n)) (all p (follow w left (next w (suc n)))) a in

@@ -3,11 +3,8 @@ use mathlib.Core.Path.{_≡_, refl}
 use mathlib.Core.Bool.{Bool, true, false}
 use Prim.Native.Nat.{ℕ, _+_, _≤_}
 use native.Mathlib.Numerals.{add-one}
-use Rattle.protocol.specs.Tools.{bit, countTo, allTo}
-use Rattle.codec.specs.Spelling.{join}
-use Rattle.codec.specs.Whole.{all-at}
-use Rattle.image.specs.Tests.{by-test, clash}
-use Rattle.image.specs.Counts.{sumTo}
+use Rattle.protocol.specs.Tools.{bit, countTo, allTo, sumTo, join}
+use Rattle.protocol.specs.Laws.Tests.{by-test, clash, allTo-at}
 
 module _ (p : ℕ → Bool) where
   pub count-start : countTo p 0 ≡ 0
@@ -28,7 +25,7 @@ module _ (p : ℕ → Bool) where
 
   pub all-fails : (n k : ℕ) → 1 ≤ k → k ≤ n → p k ≡ false → allTo p n ≡ false
   all-fails n k l m e =
-      by-test {P = allTo p n ≡ false} (allTo p n) (λ a. clash (p k) (all-at p n k a l m) e) (λ a. a)
+      by-test {P = allTo p n ≡ false} (allTo p n) (λ a. clash (allTo-at p n k a l m) e) (λ a. a)
 
 module _ (g : ℕ → ℕ) where
   pub sum-start : sumTo g 0 ≡ 0

@@ -18,23 +18,23 @@ use Rattle.protocol.specs.declared.Client.{Client}
 use Rattle.protocol.specs.declared.Ending.{Ending}
 use Rattle.protocol.specs.declared.Ending.the-variants.{Settled, EndSent}
 use Rattle.protocol.specs.declared.Message.{Message}
-use Rattle.protocol.specs.Tools.{within, any, bitOf}
-use Rattle.protocol.specs.Sizes.{clients, servers, views, messages, sized, sizeRule, size}
+use Rattle.protocol.specs.Tools.{within, any, bitOf, both, join}
+use Rattle.protocol.specs.Sizes.{clients, views, messages, sized, sizeRule, size}
 use Rattle.protocol.specs.Entries.{countOf, writerOf, same, empty, entryFits}
 use Rattle.protocol.specs.Servers.{READ, WRITE, END, ANSWER, isRequest}
 use Rattle.protocol.specs.Clients.{WRITES, READS, requestOf, endOf}
 use Rattle.protocol.specs.Worlds.{World, view, server, client, message, newest, present}
 use Rattle.protocol.specs.Chains.{chain}
-use Rattle.protocol.specs.Readable.{isSent, endingFits, lastView, viewFits, serverFits, phaseFits, clientFits, sentFits, zeroMessage, messageFits, takenAnswer, chainFits, wellFormed}
+use Rattle.protocol.specs.Readable.{isSent, endingFits, lastView, viewFits, serverFits, phaseFits, clientFits, sentFits, zeroMessage, messageFits, takenAnswer, wellFormed}
 use Rattle.codec.specs.Layout.{imageSize}
 use Rattle.codec.specs.Records.{EntryFits, ViewFits, ServerFits, ClientFits, MessageFits}
 use Rattle.codec.specs.Images.{encode, decode}
 use Rattle.codec.specs.Laws.{Storable, length-encode, decode-encode}
-use Rattle.codec.specs.Spelling.{both, join}
-use Rattle.codec.specs.Whole.{all-at}
-use Rattle.image.specs.Tests.{by-test, clash, or-cases, implied, if-true, if-false}
+use Rattle.protocol.specs.Laws.Tests.{by-test, clash, or-cases, allTo-at}
+use Rattle.image.specs.Tests.{implied, if-true, if-false}
 use Rattle.image.specs.Links.{first-met, next-met}
-use Rattle.image.specs.Formed.{Formed, formed, headed, present-in, in-present, sent-at, taken-answer}
+use Rattle.protocol.specs.Laws.Formed.{Formed, formed}
+use Rattle.image.specs.Formed.{full-lists, present-in, in-present, sent-at, taken-answer}
 use Rattle.image.specs.Chains.{chain-parts, taken-parts}
 
 -- equal in every byte
@@ -51,8 +51,8 @@ readable i = eqb (length i) imageSize && (sameBytes (encode (decode i)) i && wel
 pub same-true : (a b : List ℕ) → sameBytes a b ≡ true → a ≡ b
 unfolding sameBytes
 same-true [] [] e = refl
-same-true [] (y ∷ b) e = clash false e refl
-same-true (x ∷ a) [] e = clash false e refl
+same-true [] (y ∷ b) e = clash e refl
+same-true (x ∷ a) [] e = clash e refl
 same-true (x ∷ a) (y ∷ b) e =
     let p = both (eqb x y) (sameBytes a b) e in
     rw (eqb-true x y (p .0), same-true a b (p .1))
@@ -128,21 +128,21 @@ unfolding viewFits sized
 view-below w t e =
     by-test (leb t (lastView w))
     (λ q.
-    let f = sym (if-true (leb t (lastView w)) (ltb (view w t .members) (2 ^ 32) && sizeRule (size (view w t)) (view w t .f)) (eqb (view w t .members) 0 && eqb (view w t .f) 0) q) ∙ e in
-    record { members = ltb-true (view w t .members) (2 ^ 32) (both (ltb (view w t .members) (2 ^ 32)) (sizeRule (size (view w t)) (view w t .f)) f .0) })
+    let f = sym (if-true (leb t (lastView w)) (ltb (view w t .members .0) (2 ^ 32) && sizeRule (size (view w t)) (view w t .f)) (eqb (view w t .members .0) 0 && eqb (view w t .f) 0) q) ∙ e in
+    record { members = ltb-true (view w t .members .0) (2 ^ 32) (both (ltb (view w t .members .0) (2 ^ 32)) (sizeRule (size (view w t)) (view w t .f)) f .0) })
     (λ q.
-    let f = sym (if-false (leb t (lastView w)) (ltb (view w t .members) (2 ^ 32) && sizeRule (size (view w t)) (view w t .f)) (eqb (view w t .members) 0 && eqb (view w t .f) 0) q) ∙ e in
-    let z = eqb-true (view w t .members) 0 (both (eqb (view w t .members) 0) (eqb (view w t .f) 0) f .0) in
+    let f = sym (if-false (leb t (lastView w)) (ltb (view w t .members .0) (2 ^ 32) && sizeRule (size (view w t)) (view w t .f)) (eqb (view w t .members .0) 0 && eqb (view w t .f) 0) q) ∙ e in
+    let z = eqb-true (view w t .members .0) 0 (both (eqb (view w t .members .0) 0) (eqb (view w t .f) 0) f .0) in
     record { members = omega arith })
 
 server-below : (w : World) → newest w ≤ views → (s : ℕ) → serverFits w s ≡ true → ServerFits (server w s)
 unfolding serverFits
 server-below w h s e =
-    let a = both (leb (server w s .view .0) (newest w)) (ltb (server w s .keys) (2 ^ newest w) && ((server w s .faulty || (eqb (server w s .keys) 0 || eqb (server w s .keys) (bitOf (server w s .view .0)))) && entryFits (server w s .entry))) e in
-    let b = both (ltb (server w s .keys) (2 ^ newest w)) ((server w s .faulty || (eqb (server w s .keys) 0 || eqb (server w s .keys) (bitOf (server w s .view .0)))) && entryFits (server w s .entry)) (a .1) in
-    let c = both (server w s .faulty || (eqb (server w s .keys) 0 || eqb (server w s .keys) (bitOf (server w s .view .0)))) (entryFits (server w s .entry)) (b .1) in
+    let a = both (leb (server w s .view .0) (newest w)) (ltb (server w s .keys .0) (2 ^ newest w) && ((server w s .faulty || (eqb (server w s .keys .0) 0 || eqb (server w s .keys .0) (bitOf (server w s .view .0)))) && entryFits (server w s .entry))) e in
+    let b = both (ltb (server w s .keys .0) (2 ^ newest w)) ((server w s .faulty || (eqb (server w s .keys .0) 0 || eqb (server w s .keys .0) (bitOf (server w s .view .0)))) && entryFits (server w s .entry)) (a .1) in
+    let c = both (server w s .faulty || (eqb (server w s .keys .0) 0 || eqb (server w s .keys .0) (bitOf (server w s .view .0)))) (entryFits (server w s .entry)) (b .1) in
     record {
-      keys = lt-of-lt-of-le (ltb-true (server w s .keys) (2 ^ newest w) (b .0)) (pow-mono {i = newest w} {j = 32} h);
+      keys = lt-of-lt-of-le (ltb-true (server w s .keys .0) (2 ^ newest w) (b .0)) (pow-mono {i = newest w} {j = 32} h);
       entry = entry-fits (server w s .entry) (c .1);
     }
 
@@ -167,10 +167,10 @@ zero-below m e =
 
 module _ (w : World) (h : Formed w) where
   in-used : w .used ≤ messages
-  in-used = headed w (h .header) .used
+  in-used = h .full
 
   fits-at : (n : ℕ) → 1 ≤ n → n ≤ w .used → messageFits w n ≡ true
-  fits-at n l m = let u = in-used in all-at (messageFits w) messages n (h .message) l (omega arith)
+  fits-at n l m = let u = in-used in h .mail n l (omega arith)
 
   -- a link leads to a taken answer or to zero
   taken-below : (r n : ℕ) → (n ≡ 0) ⊎ (takenAnswer w r n ≡ true) → n < 2 ^ 16
@@ -181,7 +181,7 @@ module _ (w : World) (h : Formed w) where
   head-below : (n : ℕ) → 1 ≤ n → n ≤ w .used → isRequest (message w n .kind) ≡ true → message w n .next .0 < 2 ^ 16
   unfolding chain
   head-below n l m q =
-      let c = chain-parts w n (all-at (chainFits w) (w .used) n (h .chain) l m) q in
+      let c = chain-parts w n (h .chained n l m) q in
       taken-below n (message w n .next .0) (first-met w (takenAnswer w n) messages (message w n .next .0) (c .ended) (c .only))
 
   link-below : (n : ℕ) → 1 ≤ n → n ≤ w .used → message w n .taken ≡ true → message w n .next .0 < 2 ^ 16
@@ -190,9 +190,9 @@ module _ (w : World) (h : Formed w) where
       let a = taken-answer w (message w n) (sent-at w n m (fits-at n l m) .request) t in
       let r : ℕ = message w n .request .0 in
       let p = present-in w r (a .present) in
-      let c = chain-parts w r (all-at (chainFits w) (w .used) r (h .chain) (p .0) (p .1)) (a .request) in
+      let c = chain-parts w r (h .chained r (p .0) (p .1)) (a .request) in
       let x : takenAnswer w r n ≡ true = join (in-present w n l m) (join (eq-eqb (message w n .kind) ANSWER (a .kind)) (join t (eq-eqb r r refl))) in
-      let y = implied (takenAnswer w r n) (any (eqb n) (chain w r)) (all-at _ (w .used) n (c .every) l m) x in
+      let y = implied (takenAnswer w r n) (any (eqb n) (chain w r)) (allTo-at _ (w .used) n (c .every) l m) x in
       taken-below r (message w n .next .0) (next-met w (takenAnswer w r) messages (message w r .next .0) n (c .ended) (c .only) y)
 
   next-below : (n : ℕ) → 1 ≤ n → n ≤ w .used → message w n .next .0 < 2 ^ 16
@@ -224,10 +224,10 @@ module _ (w : World) (h : Formed w) where
   beyond-below n l m =
       zero-below (message w n)
       (sym (if-false (leb n (w .used)) (sentFits w (message w n)) (zeroMessage (message w n)) (lt-leb n (w .used) l))
-      ∙ all-at (messageFits w) messages n (h .message) (omega arith) m)
+      ∙ h .mail n (omega arith) m)
 
   message-below : (n : ℕ) → n ≤ messages → MessageFits (message w n)
-  message-below zero m = zero-below (message w 0) (h .first)
+  message-below zero m = zero-below (message w 0) (h .zero)
   message-below (suc n) m =
       elim (decLt (w .used) (suc n)) [
         | yes q ↦ beyond-below (suc n) q m
@@ -243,14 +243,13 @@ module _ (w : World) (h : Formed w) where
 
   pub storable : Storable w
   storable =
-      let d = headed w (h .header) in
       record {
-        full = h .full;
+        full = full-lists h;
         used = let u = in-used in omega arith;
-        administrator = record { ending = ending-below w in-used (w .administrator .ending) (d .ending) };
-        view = λ t a b. view-below w t (all-at (viewFits w) views t (h .view) a b);
-        server = λ s a b. server-below w (d .high) s (all-at (serverFits w) servers s (h .server) a b);
-        client = λ c a b. client-below w in-used c (all-at (clientFits w) clients c (h .client) a b);
+        administrator = record { ending = ending-below w in-used (w .administrator .ending) (h .ending) };
+        view = λ t a b. view-below w t (h .viewed t a b);
+        server = λ s a b. server-below w (h .high) s (h .served s a b);
+        client = λ c a b. client-below w in-used c (h .client c a b);
         message = message-below;
       }
 
@@ -266,4 +265,4 @@ module _ (w : World) (e : wellFormed w ≡ true) where
   pub world-readable : readable (encode w) ≡ true
   world-readable =
       read-back (encode w)
-      (record { size = length-encode w (formed w e .full); image = ap encode world-decode; world = ap wellFormed world-decode ∙ e })
+      (record { size = length-encode w (full-lists (formed w e)); image = ap encode world-decode; world = ap wellFormed world-decode ∙ e })

@@ -2,7 +2,7 @@
 use mathlib.Core.Path.{_≡_, sym, _∙_}
 use mathlib.Core.Bool.{Bool, true, false, _&&_}
 use mathlib.Core.List.{List}
-use Prim.Native.Nat.{ℕ, zero, suc, _+_, _≤_}
+use Prim.Native.Nat.{ℕ, zero, suc, _≤_}
 use native.Mathlib.Omega.{arith}
 use lib.ListN.{length}
 use lib.Dec.{ltb, leb, eqb}
@@ -11,35 +11,29 @@ use Rattle.protocol.specs.declared.MessageNumber.{MessageNumber}
 use Rattle.protocol.specs.declared.Ending.the-variants.{EndSent}
 use Rattle.protocol.specs.declared.Administrator.{Administrator}
 use Rattle.protocol.specs.declared.Message.{Message}
-use Rattle.protocol.specs.Tools.{if, bit, within, countTo, allTo}
+use Rattle.protocol.specs.Tools.{if, within, countTo, allTo, both, join, sumTo}
 use Rattle.protocol.specs.Sizes.{clients, servers, views, messages}
 use Rattle.protocol.specs.Entries.{entryFits}
-use Rattle.protocol.specs.Servers.{END, isRequest}
-use Rattle.protocol.specs.Clients.{isEnding}
+use Rattle.protocol.specs.Servers.{END}
 use Rattle.protocol.specs.Worlds.{World, message, present}
-use Rattle.protocol.specs.Readable.{isSent, endingFits, sentFits, phaseFits, headerFits, lastView, viewFits, serverFits, clientFits, zeroMessage, messageFits, takenAnswer}
+use Rattle.protocol.specs.Readable.{viewRule, serverRule, messageRule, lastOf, isAsked}
+use Rattle.protocol.specs.Readable.{isSent, endingFits, sentFits, phaseFits, headerFits, lastView, viewFits, serverFits, clientFits, zeroMessage, messageFits, takenAnswer, chainFits}
 use Rattle.codec.specs.Layout.{imageSize, headerWidth}
 use Rattle.codec.specs.Lists.{part}
 use Rattle.codec.specs.Bytes.{Bytes}
 use Rattle.codec.specs.Places.{usedAt, administratorAt, viewAt, serverAt, clientAt, messageAt}
 use Rattle.codec.specs.Images.{decode}
 use Rattle.codec.specs.Laws.{decode-full, used-decode, view-decode, server-decode, client-decode, message-decode}
-use Rattle.codec.specs.Spelling.{both, join, headerPlain}
-use Rattle.codec.specs.Whole.{Plain, viewPlainAt, serverPlainAt, clientPlainAt, messagePlainAt, all-at, all-of, encode-decode, plain-image}
-use Rattle.values.specs.Records.{viewRule, keyRule, serverRule, messageRule}
+use Rattle.codec.specs.Records.{headerPlain}
+use Rattle.codec.specs.Whole.{Plain, viewPlainAt, serverPlainAt, clientPlainAt, messagePlainAt, encode-decode, plain-image}
+use Rattle.protocol.specs.Readable.{viewRule, serverRule, messageRule}
+use Rattle.protocol.specs.Laws.Tests.{allTo-at, all-to}
 use Rattle.image.specs.Tests.{as-one}
-use Rattle.image.specs.Counts.{Each, sumTo}
-use Rattle.image.specs.Formed.{Formed, formed, well-formed, Headed, headed, present-in}
+use Rattle.image.specs.Counts.{Each}
+use Rattle.protocol.specs.Laws.Formed.{formed, well-formed, header-of, header-parts}
+use Rattle.image.specs.Formed.{Headed, headed, present-in}
 use Rattle.image.specs.Chains.{chainSound, links, isTaken, chainsFit, chains-fit, taken-parts}
 use Rattle.image.specs.Readable.{readable, Read, read, read-back}
-
--- "an answer's request has kind 1 to 3"
-abbrev pub isAsked : World → ℕ → Bool
-isAsked w n = present w n && isRequest (message w n .kind)
-
--- the last view that is not zero
-unfoldable pub lastOf : Administrator → ℕ
-lastOf a = a .newest .0 + bit (isEnding (a .ending))
 
 -- ---- the tests of an image
 
@@ -105,11 +99,11 @@ open-high i o = o .head .high
 -- ---- a record's clause is that of the record in the image
 
 pub view-rule : (i : List ℕ) (t : ℕ) → 1 ≤ t → t ≤ views → viewFits (decode i) t ≡ viewRule (lastOf (administratorAt i)) t (viewAt i t)
-unfolding viewFits viewRule lastView lastOf decode
+unfolding viewFits lastView decode
 view-rule i t a b = rw (view-decode i t a b)
 
 pub server-rule : (i : List ℕ) (s : ℕ) → 1 ≤ s → s ≤ servers → serverFits (decode i) s ≡ serverRule (administratorAt i .newest .0) (serverAt i s)
-unfolding serverFits serverRule keyRule decode
+unfolding serverFits decode
 server-rule i s a b = rw (server-decode i s a b)
 
 -- the header's clauses by the records that were read
@@ -126,7 +120,7 @@ end-rule i a n f = rw f
 
 pub sent-rule : (i : List ℕ) (newest : ℕ) (m : Message) → newest ≡ administratorAt i .newest .0
     → messageRule newest m (isAsked (decode i) (m .request .0)) ≡ sentFits (decode i) m
-unfolding messageRule sentFits decode
+unfolding sentFits decode
 sent-rule i newest m e = rw e
 
 pub beyond-rule : (i : List ℕ) (used n : ℕ) → used ≡ usedAt i → n ≤ messages
@@ -146,37 +140,36 @@ chains-rule i used e = rw (e ∙ sym (used-decode i))
 
 -- ---- both tests of an image are one
 
-both-all : (p q : ℕ → Bool) (n : ℕ) → ((k : ℕ) → 1 ≤ k → k ≤ n → p k ≡ true) → allTo q n ≡ true → allTo (λ k. p k && q k) n ≡ true
-both-all p q n f e = all-of (λ k. p k && q k) n (λ k a b. join (f k a b) (all-at q n k e a b))
+both-all : (p q : ℕ → Bool) (n : ℕ) → ((k : ℕ) → 1 ≤ k → k ≤ n → p k ≡ true) → ((k : ℕ) → 1 ≤ k → k ≤ n → q k ≡ true) → allTo (λ k. p k && q k) n ≡ true
+both-all p q n f g = all-to (λ k. p k && q k) n (λ k a b. join (f k a b) (g k a b))
 
 left-all : (p q : ℕ → Bool) (n : ℕ) → allTo (λ k. p k && q k) n ≡ true → (k : ℕ) → 1 ≤ k → k ≤ n → p k ≡ true
-left-all p q n e k a b = both (p k) (q k) (all-at (λ j. p j && q j) n k e a b) .0
+left-all p q n e k a b = both (p k) (q k) (allTo-at (λ j. p j && q j) n k e a b) .0
 
-right-all : (p q : ℕ → Bool) (n : ℕ) → allTo (λ k. p k && q k) n ≡ true → allTo q n ≡ true
-right-all p q n e = all-of q n (λ k a b. both (p k) (q k) (all-at (λ j. p j && q j) n k e a b) .1)
+right-all : (p q : ℕ → Bool) (n : ℕ) → allTo (λ k. p k && q k) n ≡ true → (k : ℕ) → 1 ≤ k → k ≤ n → q k ≡ true
+right-all p q n e k a b = both (p k) (q k) (allTo-at (λ j. p j && q j) n k e a b) .1
 
 from-zero : (p : ℕ → Bool) (n : ℕ) → p 0 ≡ true → ((k : ℕ) → 1 ≤ k → k ≤ n → p k ≡ true) → (k : ℕ) → k ≤ n → p k ≡ true
 from-zero p n z f zero b = z
 from-zero p n z f (suc k) b = f (suc k) (omega arith) b
 
 module _ (i : List ℕ) (size : length i ≡ imageSize) (bytes : Bytes i) where
-  messages-used : Formed (decode i) → Each (decode i .used) (λ k. messageFits (decode i) k ≡ true)
-  messages-used f =
-      record { one = λ k a b. let u = headed (decode i) (f .header) .used in all-at (messageFits (decode i)) messages k (f .message) a (omega arith) }
+  messages-used : (w : World) → w .used ≤ messages → ((k : ℕ) → 1 ≤ k → k ≤ messages → messageFits w k ≡ true) → Each (w .used) (λ k. messageFits w k ≡ true)
+  messages-used w u f = record { one = λ k a b. f k a (omega arith) }
 
   read-scan : Read i → scanned i ≡ true
   unfolding scanned headerOk viewOk serverOk clientOk messagesOk firstOk messageOk
   read-scan r =
       let p = plain-image i (r .image) in
       let f = formed (decode i) (r .world) in
-      join (join (p .header) (f .header))
-      (join (both-all (viewPlainAt i) (viewFits (decode i)) views (p .view) (f .view))
-      (join (both-all (serverPlainAt i) (serverFits (decode i)) servers (p .server) (f .server))
+      join (join (p .header) (header-of f))
+      (join (both-all (viewPlainAt i) (viewFits (decode i)) views (p .view) (f .viewed))
+      (join (both-all (serverPlainAt i) (serverFits (decode i)) servers (p .server) (f .served))
       (join (both-all (clientPlainAt i) (clientFits (decode i)) clients (p .client) (f .client))
       (join
-      (join (join (p .message 0 (omega arith)) (f .first))
-      (both-all (messagePlainAt i) (messageFits (decode i)) messages (λ k a b. p .message k b) (f .message)))
-      (sym (chains-fit (decode i) (messages-used f)) ∙ f .chain)))))
+      (join (join (p .message 0 (omega arith)) (f .zero))
+      (both-all (messagePlainAt i) (messageFits (decode i)) messages (λ k a b. p .message k b) (f .mail)))
+      (sym (chains-fit (decode i) (messages-used (decode i) (f .full) (f .mail))) ∙ all-to (chainFits (decode i)) (decode i .used) (f .chained))))))
 
   scan-read : scanned i ≡ true → Read i
   unfolding scanned headerOk viewOk serverOk clientOk messagesOk firstOk messageOk
@@ -190,8 +183,8 @@ module _ (i : List ℕ) (size : length i ≡ imageSize) (bytes : Bytes i) where
       let h = both (headerPlain (part i 0 headerWidth)) (headerFits (decode i)) (a .0) in
       let z = both (messagePlainAt i 0) (zeroMessage (message (decode i) 0)) (g .0) in
       let m = right-all (messagePlainAt i) (messageFits (decode i)) messages (g .1) in
-      let u = headed (decode i) (h .1) .used in
-      let each : Each (decode i .used) (λ k. messageFits (decode i) k ≡ true) = record { one = λ k x y. all-at (messageFits (decode i)) messages k m x (omega arith) } in
+      let full = decode-full i in
+      let head = header-parts (decode i) (h .1) in
       let plain : Plain i = record {
         header = h .0;
         view = left-all (viewPlainAt i) (viewFits (decode i)) views (b .0);
@@ -204,14 +197,20 @@ module _ (i : List ℕ) (size : length i ≡ imageSize) (bytes : Bytes i) where
         image = encode-decode i size bytes plain;
         world = well-formed (decode i)
             (record {
-              full = decode-full i;
-              header = h .1;
-              view = right-all (viewPlainAt i) (viewFits (decode i)) views (b .0);
-              server = right-all (serverPlainAt i) (serverFits (decode i)) servers (c .0);
+              viewCount = full .view;
+              serverCount = full .server;
+              clientCount = full .client;
+              messageCount = full .message;
+              full = head .0;
+              low = head .1 .0;
+              high = head .1 .1;
+              ending = head .2;
+              viewed = right-all (viewPlainAt i) (viewFits (decode i)) views (b .0);
+              served = right-all (serverPlainAt i) (serverFits (decode i)) servers (c .0);
               client = right-all (clientPlainAt i) (clientFits (decode i)) clients (d .0);
-              first = z .1;
-              message = m;
-              chain = chains-fit (decode i) each ∙ f .1;
+              zero = z .1;
+              mail = m;
+              chained = λ r. allTo-at (chainFits (decode i)) (decode i .used) r (chains-fit (decode i) (messages-used (decode i) (head .0) m) ∙ f .1);
             });
       }
 
@@ -226,4 +225,4 @@ readable-size i n = rw (ne-eqb (length i) imageSize n)
 
 -- a readable image has a header that fits
 pub readable-open : (i : List ℕ) → readable i ≡ true → Open i
-readable-open i e = let r = read i e in record { size = r .size; head = headed (decode i) (formed (decode i) (r .world) .header) }
+readable-open i e = let r = read i e in record { size = r .size; head = let f = formed (decode i) (r .world) in record { used = f .full; high = f .high } }

@@ -1,5 +1,5 @@
 -- The walk along a request's chain. Assumes nothing.
-use mathlib.Core.Path.{_≡_, refl}
+use mathlib.Core.Path.{_≡_, refl, sym, ap, _∙_}
 use mathlib.Core.Bool.{Bool, true, false}
 use mathlib.Core.Option.{Option, none, some}
 use Prim.Native.Nat.{ℕ, zero, suc, _+_, _-_, _≤_}
@@ -15,7 +15,7 @@ use Rattle.protocol.specs.Chains.{follow, chain}
 use Rattle.protocol.specs.Readable.{takenAnswer, chainFits}
 use Rattle.image.specs.declared.chain.Followed.{Followed}
 use Rattle.image.specs.declared.chain.Followed.the-variants.{Whole, Broken}
-use Rattle.image.specs.Tests.{by-test}
+use Rattle.protocol.specs.Laws.Tests.{by-test}
 use Rattle.image.specs.Links.{length-follow}
 use Rattle.image.specs.Chains.{sound, chainSound, links, chain-parts, parts-sound}
 
@@ -23,6 +23,11 @@ use Rattle.image.specs.Chains.{sound, chainSound, links, chain-parts, pa
 abbrev pub followed : Followed → Option ℕ
 followed (Whole n) = some n
 followed Broken = none
+
+-- the number that a walk hands back: the links followed, or one more than a walk can follow
+abbrev pub numbered : Option ℕ → ℕ
+numbered (some n) = n
+numbered none = suc messages
 
 -- a walk from n on, tally links having been followed before: "the walk reports the links followed"
 unfoldable pub walked : World → ℕ → ℕ → ℕ → ℕ → Option ℕ
@@ -83,6 +88,26 @@ walked-on w r zero (suc n) tally ne nl t = absurd (nl refl)
 walked-on w r (suc left) (suc n) tally ne nl t =
     let e : suc left - 1 ≡ left = omega arith in
     rw (sound-on w r left n t, follow-on w left n tally, e)
+
+-- ---- the number of a walk, opened
+
+walked-most : (b : Bool) (k : ℕ) → k ≤ messages → numbered (if b (some k) none) ≡ suc messages → if b (some k) none ≡ none
+walked-most true k h e = absurd (omega arith)
+walked-most false k h e = refl
+
+walked-least : (b : Bool) (k : ℕ) → (numbered (if b (some k) none) ≡ suc messages → ⊥) → if b (some k) none ≡ some (numbered (if b (some k) none))
+walked-least true k h = refl
+walked-least false k h = absurd (h refl)
+
+module _ (w : World) (r left n tally k : ℕ) (most : tally + left ≤ messages) (is : k ≡ numbered (walked w r left n tally)) where
+  pub walked-broken : k ≡ suc messages → none ≡ walked w r left n tally
+  unfolding walked
+  walked-broken e =
+      sym (walked-most (sound w r left n) (tally + length (follow w left n)) (let f = length-follow w left n in omega arith) (sym is ∙ e))
+
+  pub walked-whole : (k ≡ suc messages → ⊥) → some k ≡ walked w r left n tally
+  unfolding walked
+  walked-whole e = ap some is ∙ sym (walked-least (sound w r left n) (tally + length (follow w left n)) (λ q. e (is ∙ q)))
 
 -- ---- a whole chain
 

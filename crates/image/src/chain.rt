@@ -9,7 +9,7 @@ ghost use Rattle.protocol.specs.Readable.{takenAnswer};
 ghost use Rattle.codec.specs.Images.{decode};
 ghost use Rattle.image.specs.Scan.{Open};
 ghost use Rattle.image.specs.Chains.{chainsFit, isTaken};
-ghost use Rattle.image.specs.Walks.{followed, walked, chained};
+ghost use Rattle.image.specs.Walks.{followed, numbered, walked, chained};
 use super::sent::present;
 use codec::places::load_message;
 use codec::places::load_used;
@@ -19,12 +19,15 @@ use protocol::kinds::END;
 use protocol::kinds::READ;
 use protocol::limits::MESSAGES;
 
-// A walk along links: the links followed until zero, or none where a link is no taken answer of the request or zero is
-// not reached within the links allowed.
+// A chain: the links followed until zero, or none where a link is no taken answer of the request or zero is not reached
+// within the links allowed.
 pub enum Followed {
     Whole(u16),
     Broken,
 }
+
+// What a walk answers where there is none: no walk follows so many links.
+const BROKEN: u16 = MESSAGES + 1;
 
 // Message n is a taken answer of that request.
 fn taken_answer(image: &[u8], request: MessageNumber, n: MessageNumber) -> bool
@@ -45,25 +48,20 @@ fn taken_answer(image: &[u8], request: MessageNumber, n: MessageNumber) -> bool
     of.0 == request.0
 }
 
-// "From a request the links are followed until zero": from n on, with the links still allowed and those followed so far.
-pub fn walk(
-    image: &[u8],
-    request: MessageNumber,
-    n: MessageNumber,
-    left: u16,
-    links: u16,
-) -> Followed
+// "From a request the links are followed until zero": from n on, with the links still allowed and those followed so far. All that
+// it carries and answers is numbers, which stay in registers.
+fn walk(image: &[u8], request: MessageNumber, n: MessageNumber, left: u16, links: u16) -> u16
     requires { ⌜ Open (now image) × (links + left ≤ messages) ⌝ }
-    ensures { λ r. ⌜ followed r ≡ walked (decode (now (image .entry))) (request .0) left (n .0) links ⌝ }
+    ensures { λ r. ⌜ r ≡ numbered (walked (decode (now (image .entry))) (request .0) left (n .0) links) ⌝ }
 {
     if n.0 == 0 {
-        return Followed::Whole(links);
+        return links;
     }
     if left == 0 {
-        return Followed::Broken;
+        return BROKEN;
     }
     if !taken_answer(image, request, n) {
-        return Followed::Broken;
+        return BROKEN;
     }
     let m = load_message(image, n);
     let next = m.next;
@@ -71,7 +69,7 @@ pub fn walk(
 }
 
 // The chain of message r; a message that is no request has none.
-pub fn chain_of(image: &[u8], r: MessageNumber) -> Followed
+fn chain_of(image: &[u8], r: MessageNumber) -> Followed
     requires { ⌜ Open (now image) × (r .0 ≤ messages) ⌝ }
     ensures { λ x. ⌜ followed x ≡ chained (decode (now (image .entry))) (r .0) ⌝ }
 {
@@ -83,7 +81,11 @@ pub fn chain_of(image: &[u8], r: MessageNumber) -> Followed
     if END < m.kind {
         return Followed::Whole(0);
     }
-    walk(image, r, next, MESSAGES, 0)
+    let links = walk(image, r, next, MESSAGES, 0);
+    if links == BROKEN {
+        return Followed::Broken;
+    }
+    Followed::Whole(links)
 }
 
 fn taken_bit(image: &[u8], n: MessageNumber) -> u32

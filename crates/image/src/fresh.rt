@@ -2,31 +2,38 @@
 ghost use mathlib.Core.Path.{_≡_};
 ghost use Prim.Native.Nat.{_≤_};
 ghost use lib.ListN.{length};
+ghost use Rattle.protocol.specs.Sizes.{servers};
 ghost use Rattle.protocol.specs.Worlds.{freshServer, freshWorld};
 ghost use Rattle.codec.specs.Layout.{imageSize};
 ghost use Rattle.codec.specs.Images.{encode};
 ghost use Rattle.image.specs.Fresh.{idleServer, seeded, freshOn};
 use codec::bytes::clear;
-use codec::bytes::put_bytes;
+use codec::bytes::put16;
 use codec::layout::IMAGE;
+use codec::layout::VERSION;
+use codec::layout::VERSION_AT;
 use codec::places::store_administrator;
 use codec::places::store_server;
 use codec::places::store_view;
 use protocol::Administrator;
 use protocol::Ending;
 use protocol::Entry;
+use protocol::KeySet;
 use protocol::Server;
 use protocol::ServerNumber;
+use protocol::ServerSet;
 use protocol::Stamp;
 use protocol::StampCount;
 use protocol::View;
 use protocol::ViewNumber;
 use protocol::limits::SERVERS;
-use values::sizes::holds;
+use protocol::refusals::WRONG_LENGTH;
+use protocol::refusals::WRONG_SIZE;
+use values::sets::has_server;
 use values::sizes::sized;
 
-fn server_of(view: ViewNumber, keys: u32) -> Server
-    ensures { λ r. ⌜ r ≡ idleServer (view .0) keys ⌝ }
+fn server_of(view: ViewNumber, keys: KeySet) -> Server
+    ensures { λ r. ⌜ r ≡ idleServer (view .0) (keys .0) ⌝ }
 {
     Server {
         view: view,
@@ -43,19 +50,19 @@ fn server_of(view: ViewNumber, keys: u32) -> Server
 }
 
 // "Members hold view 1, key 1 and the empty entry"
-fn fresh_server(members: u32, s: ServerNumber) -> Server
-    requires { ⌜ (1 ≤ s .0) × (s .0 ≤ 32) ⌝ }
-    ensures { λ r. ⌜ r ≡ freshServer members (s .0) ⌝ }
+fn fresh_server(members: ServerSet, s: ServerNumber) -> Server
+    requires { ⌜ (1 ≤ s .0) × (s .0 ≤ servers) ⌝ }
+    ensures { λ r. ⌜ r ≡ freshServer (members .0) (s .0) ⌝ }
 {
-    if holds(members, s.0) {
-        return server_of(ViewNumber(1), 1);
+    if has_server(members, s) {
+        return server_of(ViewNumber(1), KeySet(1));
     }
-    server_of(ViewNumber(0), 0)
+    server_of(ViewNumber(0), KeySet(0))
 }
 
-fn store_servers(image: &mut [u8], members: u32)
+fn store_servers(image: &mut [u8], members: ServerSet)
     requires { ⌜ length (now image) ≡ imageSize ⌝ }
-    ensures { λ _. ⌜ now (image .exit) ≡ seeded (now (image .entry)) members 32 ⌝ }
+    ensures { λ _. ⌜ now (image .exit) ≡ seeded (now (image .entry)) (members .0) servers ⌝ }
 {
     for k in 0..SERVERS {
         let s = ServerNumber(k + 1);
@@ -69,16 +76,16 @@ fn store_fresh(image: &mut [u8], v: View)
     requires { ⌜ length (now image) ≡ imageSize ⌝ }
     ensures { λ _. ⌜ now (image .exit) ≡ encode (freshWorld v) ⌝ }
 {
-    let version = [1u8, 0u8];
     let a = Administrator {
         newest: ViewNumber(1),
         ending: Ending::Settled,
     };
     clear(image);
-    put_bytes(image, 0, &version);
+    put16(image, VERSION_AT, VERSION);
     store_administrator(image, a);
     store_view(image, ViewNumber(1), v);
-    store_servers(image, v.members);
+    let members = v.members;
+    store_servers(image, members);
 }
 
 // "Fresh world (member bits, f): 1, buffer not 21,648 bytes; 8, size rule broken."
@@ -86,14 +93,14 @@ pub fn fresh(image: &mut [u8], members: u32, f: u8) -> u8
     ensures { λ r. ⌜ (r ≡ freshOn (now (image .entry)) members f .refusal) × (now (image .exit) ≡ freshOn (now (image .entry)) members f .image) ⌝ }
 {
     if image.len() != IMAGE {
-        return 1;
+        return WRONG_LENGTH;
     }
     let v = View {
-        members: members,
+        members: ServerSet(members),
         f: f,
     };
     if !sized(v) {
-        return 8;
+        return WRONG_SIZE;
     }
     store_fresh(image, v);
     0

@@ -1,7 +1,7 @@
 // The image of a world: whether it is readable, the fresh world, and the premise.
+pub mod beyond;
 pub mod chain;
 pub mod fresh;
-pub mod plain;
 pub mod premise;
 pub mod readable;
 mod sent;

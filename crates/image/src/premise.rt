@@ -17,7 +17,9 @@ use codec::places::load_view;
 use protocol::ServerNumber;
 use protocol::ViewNumber;
 use protocol::limits::SERVERS;
-use values::sizes::holds;
+use protocol::refusals::UNREADABLE;
+use protocol::refusals::WRONG_LENGTH;
+use values::sets::has_key;
 
 // A refusal, or whether no view has more faulty key holders than its threshold.
 pub enum Report {
@@ -35,7 +37,8 @@ fn bad_server(image: &[u8], t: ViewNumber, s: ServerNumber) -> u32
     if !v.faulty {
         return 0;
     }
-    let held = holds(v.keys, t.0);
+    let keys = v.keys;
+    let held = has_key(keys, t);
     held as u32
 }
 
@@ -77,10 +80,10 @@ pub fn premise(image: &[u8]) -> Report
     ensures { λ r. ⌜ reported r ≡ premiseOn (now (image .entry)) ⌝ }
 {
     if image.len() != IMAGE {
-        return Report::Refused(1);
+        return Report::Refused(WRONG_LENGTH);
     }
     if !readable(image) {
-        return Report::Refused(2);
+        return Report::Refused(UNREADABLE);
     }
     let a = load_administrator(image);
     let newest = a.newest;

@@ -3,20 +3,18 @@ ghost use mathlib.Core.Path.{_≡_};
 ghost use Prim.Native.Nat.{_≤_};
 ghost use lib.ListN.{length};
 ghost use Rattle.protocol.specs.Tools.{allTo};
-ghost use Rattle.protocol.specs.Sizes.{clients, servers, views, messages};
+ghost use Rattle.protocol.specs.Readable.{lastOf};
+ghost use Rattle.protocol.specs.Sizes.{clients, servers, views};
 ghost use Rattle.codec.specs.Layout.{imageSize};
 ghost use Rattle.codec.specs.Places.{usedAt, administratorAt};
-ghost use Rattle.image.specs.Scan.{Open, lastOf, headerOk, viewOk, serverOk, clientOk, firstOk, messageOk, messagesOk};
+ghost use Rattle.image.specs.Scan.{Open, headerOk, viewOk, serverOk, clientOk, messageOk, messagesOk};
 ghost use Rattle.image.specs.Readable.{readable as isReadable};
+use super::beyond::beyond_zero;
+use super::beyond::first_zero;
 use super::chain::chains_fit;
-use super::plain::client_plain;
-use super::plain::header_plain;
-use super::plain::message_plain;
-use super::plain::server_plain;
-use super::plain::view_plain;
 use super::sent::client_fits;
 use super::sent::header_fits;
-use super::sent::message_fits;
+use super::sent::sent_fits;
 use codec::layout::CLIENT;
 use codec::layout::CLIENTS_AT;
 use codec::layout::HEADER;
@@ -32,13 +30,17 @@ use codec::places::load_message;
 use codec::places::load_server;
 use codec::places::load_used;
 use codec::places::load_view;
+use codec::records::client_plain;
+use codec::records::header_plain;
+use codec::records::message_plain;
+use codec::records::server_plain;
+use codec::records::view_plain;
 use protocol::Administrator;
 use protocol::Ending;
 use protocol::MessageNumber;
 use protocol::ServerNumber;
 use protocol::ViewNumber;
 use protocol::limits::CLIENTS;
-use protocol::limits::MESSAGES;
 use protocol::limits::SERVERS;
 use protocol::limits::VIEWS;
 use values::records;
@@ -140,20 +142,9 @@ fn clients_ok(image: &[u8]) -> bool
     true
 }
 
-// "message 0 all zero"
-fn first_ok(image: &[u8]) -> bool
-    requires { ⌜ Open (now image) ⌝ }
-    ensures { λ r. ⌜ r ≡ firstOk (now (image .entry)) ⌝ }
-{
-    if !message_plain(&image[MESSAGES_AT..MESSAGES_AT + MESSAGE]) {
-        return false;
-    }
-    let m = load_message(image, MessageNumber(0));
-    records::zero_message(m)
-}
-
-fn message_ok(image: &[u8], n: MessageNumber, used: u16, newest: ViewNumber) -> bool
-    requires { ⌜ Open (now image) × (n .0 ≤ messages) × (used ≡ usedAt (now image)) × (newest .0 ≡ administratorAt (now image) .newest .0) ⌝ }
+// A message that was used.
+fn message_ok(image: &[u8], n: MessageNumber, newest: ViewNumber) -> bool
+    requires { ⌜ Open (now image) × (n .0 ≤ usedAt (now image)) × (newest .0 ≡ administratorAt (now image) .newest .0) ⌝ }
     ensures { λ r. ⌜ r ≡ messageOk (now (image .entry)) (n .0) ⌝ }
 {
     let k = n.0;
@@ -161,23 +152,24 @@ fn message_ok(image: &[u8], n: MessageNumber, used: u16, newest: ViewNumber) -> 
     if !message_plain(&image[at..at + MESSAGE]) {
         return false;
     }
-    message_fits(image, n, used, newest)
+    let m = load_message(image, n);
+    sent_fits(image, m, newest)
 }
 
 fn messages_ok(image: &[u8], newest: ViewNumber) -> bool
     requires { ⌜ Open (now image) × (newest .0 ≡ administratorAt (now image) .newest .0) ⌝ }
     ensures { λ r. ⌜ r ≡ messagesOk (now (image .entry)) ⌝ }
 {
-    if !first_ok(image) {
+    if !first_zero(image) {
         return false;
     }
     let used = load_used(image);
-    for k in 0..MESSAGES {
-        if !message_ok(image, MessageNumber(k + 1), used, newest) {
+    for k in 0..used {
+        if !message_ok(image, MessageNumber(k + 1), newest) {
             return false;
         }
     }
-    true
+    beyond_zero(image, used)
 }
 
 // "An image is readable if ...": for every byte string of every length.

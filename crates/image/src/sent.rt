@@ -4,11 +4,11 @@ ghost use Prim.Native.Nat.{_≤_};
 ghost use lib.ListN.{length};
 ghost use Rattle.protocol.specs.Sizes.{clients, messages};
 ghost use Rattle.protocol.specs.Worlds.{present as presentIn};
-ghost use Rattle.protocol.specs.Readable.{isSent, endingFits, headerFits, phaseFits, clientFits, sentFits, messageFits};
+ghost use Rattle.protocol.specs.Readable.{isAsked, isSent, endingFits, headerFits, phaseFits, clientFits, sentFits};
 ghost use Rattle.codec.specs.Layout.{imageSize};
 ghost use Rattle.codec.specs.Places.{usedAt, administratorAt};
 ghost use Rattle.codec.specs.Images.{decode};
-ghost use Rattle.image.specs.Scan.{Open, isAsked};
+ghost use Rattle.image.specs.Scan.{Open};
 use codec::places::load_administrator;
 use codec::places::load_client;
 use codec::places::load_message;
@@ -113,25 +113,13 @@ fn is_asked(image: &[u8], n: MessageNumber) -> bool
 }
 
 // A message that was sent.
-fn sent_fits(image: &[u8], m: Message, newest: ViewNumber) -> bool
+pub fn sent_fits(image: &[u8], m: Message, newest: ViewNumber) -> bool
     requires { ⌜ Open (now image) × (newest .0 ≡ administratorAt (now image) .newest .0) ⌝ }
     ensures { λ r. ⌜ r ≡ sentFits (decode (now (image .entry))) m ⌝ }
 {
     let request = m.request;
     let asked = is_asked(image, request);
     records::message_fits(m, newest, asked)
-}
-
-// "messages beyond used are zero"
-pub fn message_fits(image: &[u8], n: MessageNumber, used: u16, newest: ViewNumber) -> bool
-    requires { ⌜ Open (now image) × (n .0 ≤ messages) × (used ≡ usedAt (now image)) × (newest .0 ≡ administratorAt (now image) .newest .0) ⌝ }
-    ensures { λ r. ⌜ r ≡ messageFits (decode (now (image .entry))) (n .0) ⌝ }
-{
-    let m = load_message(image, n);
-    if n.0 <= used {
-        return sent_fits(image, m, newest);
-    }
-    records::zero_message(m)
 }
 
 // "in phase 2 it is what is written"

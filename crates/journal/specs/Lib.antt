@@ -1,3 +1,2 @@
-pub mod Accepted
 pub mod Replays
 pub mod Rests

@@ -1,66 +1,35 @@
--- A journal and its replay on an image. Assumes nothing.
+-- Replays one after another, and the loop of `replay` and `resume`: what their code answers is `replayOn` and `resumeOn` of
+-- image/specs/Steps.antt (`Plays`). `rest-stops`: after a stop the rest of a journal stops again; `Going`: what the loop keeps;
+-- `whole-replay`: a replay on a readable image is its world's. Used by the proofs of journal/src and by Rests.antt. Assumes nothing.
 use Prim.Native.Nat.{ℕ, zero, suc, _+_, _*_, _-_, _/_, _%_, _≤_, _<_}
 use native.Mathlib.Numerals.{add-one}
 use native.Mathlib.Omega.{arith}
-use mathlib.Core.Bool.{true, false, _&&_}
+use mathlib.Core.Bool.{true, false}
 use mathlib.Core.Path.{_≡_, refl, sym, ap, ap₂, subst, _∙_}
 use mathlib.Core.List.{List, [], _∷_}
 use lib.ListN.{length, take, drop, length-take, length-drop}
 use lib.Seq.{drop-drop, take-all}
-use lib.Dec.{eqb, leb}
 use borrow.Author.Tests.{eq-eqb, ne-eqb, le-leb, lt-leb}
-use Rattle.protocol.specs.Tools.{if, Result, refused, done, guard}
+use Rattle.protocol.specs.Tools.{Result, refused, done, guard}
 use Rattle.protocol.specs.Worlds.{World}
 use Rattle.protocol.specs.Readable.{wellFormed}
 use Rattle.protocol.specs.Steps.{After, step}
-use Rattle.protocol.specs.Runs.{stepWidth, stepOf, stepBytes, left, Replayed, onward, replay}
+use Rattle.protocol.specs.Runs.{stepWidth, stepOf, stepBytes, Replayed, onward, replay}
 use Rattle.codec.specs.Layout.{imageSize}
 use Rattle.codec.specs.Images.{encode, decode}
 use Rattle.image.specs.Readable.{readable, Read, read, world-decode, world-readable}
 use Rattle.preservation.specs.Kept.{step-kept}
-use Rattle.consistency.specs.Steps.{leftBy, answered}
+use Rattle.image.specs.Steps.{leftBy, answered, stepsIn, stepsOf, Played, played, replayOn, resumeOn}
 use Rattle.journal.specs.declared.Replayed.{Replayed as Answer}
 use Rattle.world.specs.declared.Stepped.{Stepped}
 use Rattle.world.specs.declared.Stepped.the-variants.{StepRefused, StepDone}
 use Rattle.world.specs.Images.{Legible, Does, stepped}
-
--- the steps of a journal, each 12 bytes: n of them
-unfoldable pub stepsIn : ℕ → List ℕ → List (List ℕ)
-stepsIn zero j = []
-stepsIn (suc n) j = take stepWidth j ∷ stepsIn n (drop stepWidth j)
-
-unfoldable pub stepsOf : List ℕ → List (List ℕ)
-stepsOf j = stepsIn (length j / stepWidth) j
-
--- the answer of a replay and the image that it leaves
-pub record Played : Type 0 where
-  pub steps : ℕ
-  pub refusal : ℕ
-  pub image : List ℕ
-
-abbrev pub played : Replayed → Played
-played r = record { steps = r .steps; refusal = r .refusal; image = encode (r .world) }
 
 -- the function answered r and left the image l, as p
 pub record Plays (r : Answer) (l : List ℕ) (p : Played) : Type 0 where
   pub steps : r .steps ≡ p .steps
   pub refusal : r .refusal ≡ p .refusal
   pub image : l ≡ p .image
-
-abbrev pub unplayed : List ℕ → ℕ → Played
-unplayed i n = record { steps = 0; refusal = n; image = i }
-
--- "Replay (image, journal): 1, journal not a multiple of 12 or image length wrong; 2. It stops at the first refused step and
--- returns the number of steps done and the refusal; the image holds the accepted ones."
-unfoldable pub replayOn : List ℕ → List ℕ → Played
-replayOn i j =
-    if (eqb (length i) imageSize && eqb (length j % stepWidth) 0)
-    (if (readable i) (played (replay (decode i) (stepsOf j))) (unplayed i 2))
-    (unplayed i 1)
-
--- "The rest of the journal after the last accepted step can be replayed": what is left of j after n steps; 1, it has fewer
-unfoldable pub resumeOn : List ℕ → List ℕ → ℕ → Played
-resumeOn i j n = if (leb n (length j / stepWidth)) (replayOn i (drop (n * stepWidth) j)) (unplayed i 1)
 
 -- ---- replays one after another
 

@@ -17,7 +17,8 @@ use Rattle.codec.specs.Layout.{imageSize}
 use Rattle.codec.specs.Images.{encode, decode}
 use Rattle.image.specs.Readable.{readable, Read, read, world-decode, world-readable}
 use Rattle.preservation.specs.Begun.{left-kept}
-use Rattle.journal.specs.Replays.{stepsIn, stepsOf, played, unplayed, replayOn, resumeOn, beyond, rest-stops, whole-replay, rest-some}
+use Rattle.image.specs.Steps.{stepsIn, stepsOf, played, unplayed, replayOn, resumeOn}
+use Rattle.journal.specs.Replays.{beyond, rest-stops, whole-replay, rest-some}
 
 -- a replay leaves a readable world
 replay-kept : (w : World) (bs : List (List ℕ)) → wellFormed w ≡ true → wellFormed (replay w bs .world) ≡ true
@@ -50,6 +51,10 @@ unfolding stepsIn
 length-steps zero j = refl
 length-steps (suc n) j = let h = length-steps n (drop stepWidth j) in omega arith
 
+pub steps-count : (j : List ℕ) → length (stepsOf j) ≡ length j / stepWidth
+unfolding stepsOf
+steps-count j = length-steps (length j / stepWidth) j
+
 -- the steps of the rest are the rest of the steps
 steps-beyond : (k n : ℕ) (j : List ℕ) → k ≤ n → stepsIn (n - k) (drop (k * stepWidth) j) ≡ beyond k (stepsIn n j)
 unfolding stepsIn beyond
@@ -65,8 +70,7 @@ module _ (i j : List ℕ) (size : length i ≡ imageSize) (whole : length j % st
   end = replay (decode i) (stepsOf j)
 
   most : end .steps ≤ length j / stepWidth
-  unfolding stepsOf
-  most = let h = replay-most (decode i) (stepsOf j) in let e = length-steps (length j / stepWidth) j in omega arith
+  most = let h = replay-most (decode i) (stepsOf j) in let e = steps-count j in omega arith
 
   formed : wellFormed (end .world) ≡ true
   formed = replay-kept (decode i) (stepsOf j) (r .world)

@@ -78,7 +78,7 @@ module _ (a : Server) (m : Message) (v : leb (m .view .0) views ≡ true) where
   -- START that is not refused
   start-done : (member : Bool) → eqb (m .kind) START ≡ true → numberOf (start a m member) ≡ 0 → start a m member ≡ done (replying a m)
   unfolding guard
-  start-done member s e = go (member && ltb (a .view .0) (m .view .0)) (a .faulty) (not (holds (a .keys) (m .view .0))) either e
+  start-done member s e = go (member && ltb (a .view .0) (m .view .0)) (a .faulty) (not (holds (a .keys .0) (m .view .0))) either e
     where
       either : after a m ≡ if (a .faulty) (gathering a m) (joining a m)
       either = let k = eqb-true (m .kind) START s in after-start (λ q. omega (arith, k, q)) (λ q. omega (arith, k, q)) (λ q. omega (arith, k, q))
@@ -111,7 +111,7 @@ module _ (a : Server) (m : Message) (v : leb (m .view .0) views ≡ true) where
 
 -- a server that serves kinds 1 to 3
 pub serves : (a : Server) (m : Message) (member : Bool) → leb (m .view .0) views ≡ true → within READ START (m .kind) ≡ true
-    → eqb (m .kind) START ≡ false → a .faulty ≡ false → holds (a .keys) (a .view .0) ≡ true → serveIn a m member ≡ answered a m
+    → eqb (m .kind) START ≡ false → a .faulty ≡ false → holds (a .keys .0) (a .view .0) ≡ true → serveIn a m member ≡ answered a m
 unfolding serveIn serve guard
 serves a m member v k s f h = rw (v, k, s, f, h) refl
 
@@ -119,7 +119,7 @@ serves a m member v k s f h = rw (v, k, s, f, h) refl
 pub serve-done : (a : Server) (m : Message) (member : Bool) → numberOf (serveIn a m member) ≡ 0 → serveIn a m member ≡ done (replying a m)
 unfolding serveIn serve guard
 serve-done a m member e =
-    go (leb (m .view .0) views) (within READ START (m .kind)) (eqb (m .kind) START) (not (a .faulty)) (holds (a .keys) (a .view .0)) refl refl refl e
+    go (leb (m .view .0) views) (within READ START (m .kind)) (eqb (m .kind) START) (not (a .faulty)) (holds (a .keys .0) (a .view .0)) refl refl refl e
   where
     rule : (v k s f h : Bool) → Result Reply
     rule v k s f h = guard v 3 (guard k 5 (if s (start a m member) (guard f 6 (guard h 7 (answered a m)))))

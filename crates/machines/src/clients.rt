@@ -5,6 +5,7 @@ use protocol::Closing;
 use protocol::Entry;
 use protocol::MessageNumber;
 use protocol::Phase;
+use protocol::StampCount;
 use protocol::View;
 use protocol::kinds::WRITES;
 use protocol::limits::LAST_COUNT;
@@ -57,7 +58,7 @@ pub fn begin(c: Client, kind: u8, value: u32, n: MessageNumber) -> Begun
     if !idle {
         return Begun::BeginRefused(4);
     }
-    let entry = entries::entry_of(0, 0, value);
+    let entry = entries::entry_of(StampCount(0), 0, value);
     Begun::Began(Client {
         phase: Phase::Reading(n),
         kind: kind,
@@ -88,7 +89,8 @@ fn to_write(c: Client, who: u8, e: Entry) -> Entry
     if c.kind != WRITES {
         return e;
     }
-    entries::entry_of(count.0 + 1, who, own.value)
+    let raised = count.0 + 1;
+    entries::entry_of(StampCount(raised), who, own.value)
 }
 
 // READ closes with the entry e: the WRITE, number n, is next. 11, the closing write would need a count over 4,294,967,295.

@@ -1,5 +1,6 @@
 // The rules of one server.
 use protocol::Entry;
+use protocol::KeySet;
 use protocol::Message;
 use protocol::Served;
 use protocol::Server;
@@ -11,7 +12,7 @@ use protocol::kinds::START;
 use protocol::kinds::WRITE;
 use protocol::limits::VIEWS;
 use values::entries;
-use values::sizes;
+use values::sets;
 ghost use mathlib.Core.Path.{_≡_};
 ghost use Prim.Native.Nat.{_≤_};
 ghost use Rattle.protocol.specs.Tools.{numberOf};
@@ -35,12 +36,13 @@ pub fn keeping(a: Server, e: Entry) -> Server
     ensures { λ r. ⌜ r ≡ keeping a e ⌝ }
 {
     let view = a.view;
+    let keys = a.keys;
     let own = a.entry;
     let kept = entries::larger(own, e);
     Server {
         view: view,
         faulty: a.faulty,
-        keys: a.keys,
+        keys: keys,
         entry: kept,
     }
 }
@@ -54,7 +56,7 @@ pub fn without_key(a: Server) -> Server
     Server {
         view: view,
         faulty: a.faulty,
-        keys: 0,
+        keys: KeySet(0),
         entry: own,
     }
 }
@@ -68,7 +70,7 @@ fn joining(a: Server, m: Message) -> Server
     let own = a.entry;
     let sent = m.entry;
     let kept = entries::larger(own, sent);
-    let key = sizes::bit_of(view.0);
+    let key = sets::key_of(view);
     Server {
         view: view,
         faulty: a.faulty,
@@ -85,11 +87,12 @@ fn gathering(a: Server, m: Message) -> Server
     let view = a.view;
     let own = a.entry;
     let asked = m.view;
-    let key = sizes::bit_of(asked.0);
+    let held = a.keys;
+    let keys = sets::with_key(held, asked);
     Server {
         view: view,
         faulty: a.faulty,
-        keys: a.keys | key,
+        keys: keys,
         entry: own,
     }
 }
@@ -107,7 +110,8 @@ fn start_refuses(a: Server, m: Message, member: bool) -> u8
         return 7;
     }
     if a.faulty {
-        let held = sizes::holds(a.keys, asked.0);
+        let keys = a.keys;
+        let held = sets::has_key(keys, asked);
         if held {
             return 7;
         }
@@ -157,7 +161,8 @@ pub fn refuses(a: Server, m: Message, member: bool) -> u8
     if a.faulty {
         return 6;
     }
-    let held = sizes::holds(a.keys, view.0);
+    let keys = a.keys;
+    let held = sets::has_key(keys, view);
     if !held {
         return 7;
     }
@@ -222,7 +227,8 @@ pub fn may_answer(a: Server, t: ViewNumber, m: Message, source: bool) -> u8
     if !faulty {
         return 6;
     }
-    let held = sizes::holds(a.keys, t.0);
+    let keys = a.keys;
+    let held = sets::has_key(keys, t);
     if !held {
         return 9;
     }

@@ -6,14 +6,14 @@ use mathlib.Core.Path.{_≡_, refl, ap, subst, _∙_}
 use mathlib.Core.List.{List}
 use Rattle.protocol.specs.declared.View.{View}
 use Rattle.protocol.specs.Tools.{bitOf, Result, refused, done, passed}
-use Rattle.protocol.specs.Sizes.{servers, clients, views, messages, sized}
+use Rattle.protocol.specs.Sizes.{servers, clients, views, messages, sized, viewWith}
 use Rattle.protocol.specs.Entries.{same, entryFits}
 use Rattle.protocol.specs.Worlds.{World, noMessage, server, client, freshWorld, fresh}
-use Rattle.protocol.specs.Steps.{After, step}
-use Rattle.protocol.specs.Runs.{stepOf, stepBytes, left, run}
+use Rattle.protocol.specs.Steps.{After}
+use Rattle.protocol.specs.Runs.{stepOf, stepBytes, left}
 use Rattle.protocol.specs.Readable.{endingFits, lastView, viewFits, serverFits, clientFits, zeroMessage, wellFormed}
 use Rattle.protocol.specs.Laws.Fresh.{First, member-of, outside, first, used-none, views-count, servers-count, clients-count, messages-count, fresh-newest, fresh-view, fresh-client, fresh-message, fresh-beyond}
-use Rattle.preservation.specs.Formed.{Formed, well-formed}
+use Rattle.protocol.specs.Laws.Formed.{Formed, well-formed}
 use Rattle.preservation.specs.Updates.{is-mail, is-view}
 use Rattle.preservation.specs.Kept.{step-kept}
 
@@ -78,7 +78,7 @@ pub fresh-kept : (members f : ℕ) (w : World) → fresh members f ≡ done w �
 unfolding fresh
 fresh-kept members f w e =
     let (z, d) = passed _ _ _ _ e in
-    subst (λ (x : World). wellFormed x ≡ true) (is-done d) (well-formed _ (fresh-formed (record { members = members; f = f }) z))
+    subst (λ (x : World). wellFormed x ≡ true) (is-done d) (well-formed _ (fresh-formed (viewWith members f) z))
 
 -- So is what any bytes for a step leave.
 pub left-kept : (w : World) → wellFormed w ≡ true → (b : List ℕ) → wellFormed (left w (stepBytes w b)) ≡ true

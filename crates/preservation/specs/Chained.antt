@@ -16,8 +16,7 @@ use Rattle.protocol.specs.Servers.{isRequest}
 use Rattle.protocol.specs.Worlds.{World, message}
 use Rattle.protocol.specs.Chains.{follow, chain}
 use Rattle.protocol.specs.Readable.{takenAnswer, distinct, ends, chainFits}
-use Rattle.protocol.specs.Laws.Tests.{and-left, and-right, and-both, or-cases, by-bool, clash, last-or, within-true, allTo-at}
-use Rattle.preservation.specs.Formed.{all-to}
+use Rattle.protocol.specs.Laws.Tests.{and-left, and-right, and-both, or-cases, by-bool, clash, last-or, within-true, allTo-at, all-to, count-le}
 
 -- "each chain holds only taken answers of its request, all of them, each one time", and it ends
 pub record Chained (w : World) (r : ℕ) : Type 0 where
@@ -113,15 +112,6 @@ pigeons (k ∷ ks) n d a =
     omega (arith, pigeons ks n (and-right (not (any (eqb k) ks)) _ d) (and-right (within 1 n k) _ a), count-one (λ i. any (eqb i) ks) k n l h o)
 
 -- a set of the numbers 1 to n that lacks one of them has fewer than n
-count-le : (p : ℕ → Bool) (n : ℕ) → countTo p n ≤ n
-unfolding countTo
-count-le p zero = omega arith
-count-le p (suc n) = omega (arith, count-le p n, bit-le (p (suc n)))
-  where
-    bit-le : (b : Bool) → bit b ≤ 1
-    bit-le true = omega arith
-    bit-le false = omega arith
-
 pub count-lacks : (p : ℕ → Bool) (k n : ℕ) → 1 ≤ k → k ≤ n → p k ≡ false → countTo p n < n
 count-lacks p k n l h e = omega (arith, count-one p k n l h e, count-le (λ i. eqb i k || p i) n)
 

@@ -18,10 +18,10 @@ use Rattle.protocol.specs.Chains.{enough, shown}
 use Rattle.protocol.specs.Servers.{READ, WRITE, END, isRequest, serve, mayAnswer}
 use Rattle.protocol.specs.Clients.{WRITES, READS, begin, closeSize, close, call}
 use Rattle.protocol.specs.Worlds.{World, view, newest, server, client, message, member, present, room, nextNumber}
-use Rattle.protocol.specs.Steps.{After, moved, source?, link, takenWith, begins, answers, deliver, closes, starts, takes, take, fault, lie, newView, perform, step}
+use Rattle.protocol.specs.Steps.{After, moved, source?, link, takenWith, begins, answers, deliver, closes, starts, takes, take, fault, lie, newView, perform, step, viewAsked}
 use Rattle.protocol.specs.Readable.{wellFormed}
 use Rattle.protocol.specs.Laws.Tests.{and-left, and-right, within-true}
-use Rattle.preservation.specs.Formed.{Formed, formed}
+use Rattle.protocol.specs.Laws.Formed.{Formed, formed}
 use Rattle.preservation.specs.Updates.{present-is, request-of}
 use Rattle.preservation.specs.Kept.{mailed}
 
@@ -135,7 +135,7 @@ perform-tells {w} h st =
     (tells-either (eqb (st .kind) 4) (take-tells h (st .message .0))
     (tells-either (eqb (st .kind) 5) (fault-tells w (st .who))
     (tells-either (eqb (st .kind) 6) (lie-tells w (st .who) (st .view .0) (st .message .0) (st .source .0))
-    (newView-tells w (record { members = st .value; f = st .f })))))))
+    (newView-tells w (viewAsked st)))))))
 
 -- An accepted step on a readable world completes an operation of one of the sixteen clients, or none.
 pub completes : (w : World) → wellFormed w ≡ true → (st : Step) (a : After) → step w st ≡ done a → Told (a .completed)

@@ -1,12 +1,10 @@
--- Readable worlds by their clauses, and what each clause rests on. Assumes nothing.
-use Prim.Native.Nat.{ℕ, zero, suc, _≤_, _<_}
-use native.Mathlib.Nat.{le-refl}
+-- What the clauses of a readable world rest on, and what later worlds keep of it. Assumes nothing.
+use Prim.Native.Nat.{ℕ, _≤_, _<_}
 use native.Mathlib.Omega.{arith}
 use mathlib.Core.Bool.{Bool, true, false, not, _&&_}
 use mathlib.Core.Path.{_≡_, refl, sym, ap, _∙_}
-use lib.ListN.{length}
 use lib.Dec.{ltb, leb, eqb}
-use borrow.Author.Tests.{ltb-true, leb-true, eqb-true, lt-ltb, le-leb, eq-eqb}
+use borrow.Author.Tests.{ltb-true, eqb-true, lt-ltb, eq-eqb}
 use Rattle.protocol.specs.declared.ViewNumber.{ViewNumber}
 use Rattle.protocol.specs.declared.Message.{Message}
 use Rattle.protocol.specs.declared.Client.{Client}
@@ -14,20 +12,15 @@ use Rattle.protocol.specs.declared.Phase.{Phase}
 use Rattle.protocol.specs.declared.Phase.the-variants.{Idle, Reading, Writing}
 use Rattle.protocol.specs.declared.Ending.{Ending}
 use Rattle.protocol.specs.declared.Ending.the-variants.{Settled, EndSent}
-use Rattle.protocol.specs.Tools.{if, within, allTo}
-use Rattle.protocol.specs.Sizes.{clients, servers, views, messages}
+use Rattle.protocol.specs.Tools.{if, within}
+use Rattle.protocol.specs.Sizes.{views}
 use Rattle.protocol.specs.Entries.{same}
 use Rattle.protocol.specs.Servers.{READ, WRITE, END, ANSWER, isRequest}
 use Rattle.protocol.specs.Clients.{WRITES, READS}
-use Rattle.protocol.specs.Worlds.{World, view, client, message, newest, present}
-use Rattle.protocol.specs.Readable.{shape, isSent, endingFits, headerFits, viewFits, serverFits, phaseFits, clientFits, senderFits, viewTagFits, requestFits, sentFits, zeroMessage, messageFits, chainFits, wellFormed}
-use Rattle.protocol.specs.Laws.Tests.{and-left, and-right, and-both, within-true, allTo-at}
+use Rattle.protocol.specs.Worlds.{World, view, message, newest, present}
+use Rattle.protocol.specs.Readable.{isSent, endingFits, phaseFits, senderFits, tagRule, requestFits, sentFits}
+use Rattle.protocol.specs.Laws.Tests.{and-left, and-right, and-both, within-true, is-within}
 use Rattle.protocol.specs.Laws.Worlds.{content, sent}
-
-pub all-to : (p : ℕ → Bool) (n : ℕ) → ((i : ℕ) → 1 ≤ i → i ≤ n → p i ≡ true) → allTo p n ≡ true
-unfolding allTo
-all-to p zero f = refl
-all-to p (suc n) f = and-both _ _ (all-to p n (λ i l h. f i l (omega arith))) (f (suc n) (omega arith) (le-refl _))
 
 -- of two tests, the first implies another; the second does
 pub and-first : (x y a : Bool) → (x ≡ true → a ≡ true) → (x && y) ≡ true → (a && y) ≡ true
@@ -35,68 +28,6 @@ and-first x y a f e = and-both _ _ (f (and-left _ _ e)) (and-right x _ e)
 
 pub and-then : (x y b : Bool) → (y ≡ true → b ≡ true) → (x && y) ≡ true → (x && b) ≡ true
 and-then x y b f e = and-both x b (and-left x y e) (f (and-right x y e))
-
-pub is-within : (low high n : ℕ) → low ≤ n → n ≤ high → within low high n ≡ true
-is-within low high n l h = and-both _ _ (le-leb _ _ l) (le-leb _ _ h)
-
--- the clauses, one by one
-pub record Formed (w : World) : Type 0 where
-  pub viewCount : length (w .viewList) ≡ views
-  pub serverCount : length (w .serverList) ≡ servers
-  pub clientCount : length (w .clientList) ≡ clients
-  pub messageCount : length (w .messageList) ≡ suc messages
-  pub full : w .used ≤ messages
-  pub low : 1 ≤ newest w
-  pub high : newest w ≤ views
-  pub ending : endingFits w (w .administrator .ending) ≡ true
-  pub viewed : (t : ℕ) → 1 ≤ t → t ≤ views → viewFits w t ≡ true
-  pub served : (s : ℕ) → 1 ≤ s → s ≤ servers → serverFits w s ≡ true
-  pub client : (c : ℕ) → 1 ≤ c → c ≤ clients → clientFits w c ≡ true
-  pub zero : zeroMessage (message w 0) ≡ true
-  pub mail : (n : ℕ) → 1 ≤ n → n ≤ messages → messageFits w n ≡ true
-  pub chained : (r : ℕ) → 1 ≤ r → r ≤ w .used → chainFits w r ≡ true
-
-pub formed : (w : World) → wellFormed w ≡ true → Formed w
-unfolding wellFormed shape headerFits
-formed w e =
-    let s = and-left _ _ e in
-    let e1 = and-right (shape w) _ e in
-    let h = and-left _ _ e1 in
-    let e2 = and-right (headerFits w) _ e1 in
-    let e3 = and-right (allTo (viewFits w) views) _ e2 in
-    let e4 = and-right (allTo (serverFits w) servers) _ e3 in
-    let e5 = and-right (allTo (clientFits w) clients) _ e4 in
-    let e6 = and-right (zeroMessage (message w 0)) _ e5 in
-    let s1 = and-right (eqb (length (w .viewList)) views) _ s in
-    let s2 = and-right (eqb (length (w .serverList)) servers) _ s1 in
-    let h1 = and-right (leb (w .used) messages) _ h in
-    let n = within-true 1 views (newest w) (and-left _ _ h1) in
-    record {
-      viewCount = eqb-true _ _ (and-left _ _ s);
-      serverCount = eqb-true _ _ (and-left _ _ s1);
-      clientCount = eqb-true _ _ (and-left _ _ s2);
-      messageCount = eqb-true _ _ (and-right (eqb (length (w .clientList)) clients) _ s2);
-      full = leb-true _ _ (and-left _ _ h);
-      low = n .0;
-      high = n .1;
-      ending = and-right (within 1 views (newest w)) _ h1;
-      viewed = λ t l u. allTo-at (viewFits w) views t (and-left _ _ e2) l u;
-      served = λ t l u. allTo-at (serverFits w) servers t (and-left _ _ e3) l u;
-      client = λ t l u. allTo-at (clientFits w) clients t (and-left _ _ e4) l u;
-      zero = and-left _ _ e5;
-      mail = λ t l u. allTo-at (messageFits w) messages t (and-left _ _ e6) l u;
-      chained = λ t l u. allTo-at (chainFits w) (w .used) t (and-right (allTo (messageFits w) messages) _ e6) l u;
-    }
-
-pub well-formed : (w : World) → Formed w → wellFormed w ≡ true
-unfolding wellFormed shape headerFits
-well-formed w h =
-    and-both _ _ (and-both _ _ (eq-eqb _ _ (h .viewCount)) (and-both _ _ (eq-eqb _ _ (h .serverCount)) (and-both _ _ (eq-eqb _ _ (h .clientCount)) (eq-eqb _ _ (h .messageCount)))))
-    (and-both _ _ (and-both _ _ (le-leb _ _ (h .full)) (and-both _ _ (is-within 1 views (newest w) (h .low) (h .high)) (h .ending)))
-    (and-both _ _ (all-to (viewFits w) views (h .viewed))
-    (and-both _ _ (all-to (serverFits w) servers (h .served))
-    (and-both _ _ (all-to (clientFits w) clients (h .client))
-    (and-both _ _ (h .zero) (and-both _ _ (all-to (messageFits w) messages (h .mail)) (all-to (chainFits w) (w .used) (h .chained))))))))
 
 -- ---- what later worlds keep
 
@@ -166,7 +97,7 @@ module _ {w v : World} (o : Onward w v) where
           let q : same (a .entry) (message v (r .0) .entry) ≡ true = rw (entry-on (r .0) (sent-present w (r .0) WRITE c p)) (and-right (isSent w (r .0) WRITE c) _ z) in
           and-both _ _ (sent-on (r .0) WRITE c p) q
 
-  tag-fits-on : (k t : ℕ) → viewTagFits w k t ≡ true → viewTagFits v k t ≡ true
+  tag-fits-on : (k t : ℕ) → tagRule (newest w) k t ≡ true → tagRule (newest v) k t ≡ true
   tag-fits-on k t e = go (leb k WRITE) e
     where
       go : (b : Bool) → if b (eqb t 0) (within 1 (newest w) t) ≡ true → if b (eqb t 0) (within 1 (newest v) t) ≡ true
@@ -188,5 +119,5 @@ module _ {w v : World} (o : Onward w v) where
       and-then (within READ ANSWER (m .kind)) _ _
       (and-then (senderFits (m .kind) (m .sender)) _ _
       (λ e.
-      let r = and-right (viewTagFits w (m .kind) (m .view .0)) _ e in
+      let r = and-right (tagRule (newest w) (m .kind) (m .view .0)) _ e in
       and-both _ _ (tag-fits-on (m .kind) (m .view .0) (and-left _ _ e)) (and-first (requestFits w m) _ (requestFits v m) (request-on m) r)))

@@ -31,14 +31,14 @@ use Rattle.protocol.specs.Servers.{READ, WRITE, END, START, ANSWER, isRequest, 
 use Rattle.protocol.specs.Clients.{NONE, WRITES, READS, number, begin, closeSize, toWrite, countLeft, Close, closeBy, close, isEnding, endOf, requestOf, call, advance}
 use Rattle.protocol.specs.Worlds.{World, view, server, client, message, newest, member, present, room, withServer, withClient, withView, withMessage, withAdministrator, send, nextNumber}
 use Rattle.protocol.specs.Chains.{chain, tagged, enough, shown}
-use Rattle.protocol.specs.Steps.{After, moved, request, answer, answers, begins, deliver, link, open?, takenWith, closes, starts, takes, take, fault, source?, lie, newView, CLIENT, SERVER, VIEW, F, MESSAGE, SOURCE, VALUE, uses, field, fieldsFit, perform, step}
-use Rattle.protocol.specs.Readable.{isSent, serverFits, phaseFits, clientFits, senderFits, viewTagFits, requestFits, nextFits, entryZero, sentFits, takenAnswer, wellFormed}
-use Rattle.protocol.specs.Laws.Tests.{and-left, and-right, and-both, clash, within-true, went}
+use Rattle.protocol.specs.Steps.{After, moved, request, answer, answers, begins, deliver, link, open?, takenWith, closes, starts, takes, take, fault, source?, lie, newView, writeStep, readStep, deliverStep, faultStep, falseStep, uses, viewAsked, step}
+use Rattle.protocol.specs.Readable.{isSent, serverFits, phaseFits, clientFits, senderFits, tagRule, requestFits, nextFits, entryZero, sentFits, takenAnswer, wellFormed}
+use Rattle.protocol.specs.Laws.Tests.{and-left, and-right, and-both, clash, within-true, went, is-within}
 use Rattle.protocol.specs.Laws.Entries.{larger-one, Listed, head, tail, chosen-one}
 use Rattle.protocol.specs.Laws.Worlds.{message-new}
-use Rattle.protocol.specs.Laws.Moves.{done-is, is-done, room-left, IsServer, Serving, reads, writes, ends, joins, gathers, serving}
-use Rattle.protocol.specs.Laws.Turns.{IsClient, client-of as who-client, server-of as who-server}
-use Rattle.preservation.specs.Formed.{is-within, Formed, formed, well-formed}
+use Rattle.protocol.specs.Laws.Moves.{done-is, is-done, room-left, Serving, reads, writes, ends, joins, gathers, serving}
+use Rattle.protocol.specs.Laws.Kinds.{IsClient, IsServer, client-of as who-client, server-of as who-server, value-of, by-kind}
+use Rattle.protocol.specs.Laws.Formed.{Formed, formed, well-formed}
 use Rattle.preservation.specs.Chained.{chained, all-map}
 use Rattle.preservation.specs.Links.{Untaken, taken-is}
 use Rattle.preservation.specs.Updates.{serverOk, mail-sent, request-of, present-is, clientOk, formed-server, formed-client, formed-send, formed-link, formed-raise, formed-call}
@@ -77,19 +77,19 @@ bit-bound (suc k) n l h = pow-lt h
 
 record Serves (n : ℕ) (a : Server) : Type 0 where
   view : a .view .0 ≤ n
-  keys : a .keys < 2 ^ n
-  own : (a .faulty || (eqb (a .keys) 0 || eqb (a .keys) (bitOf (a .view .0)))) ≡ true
+  keys : a .keys .0 < 2 ^ n
+  own : (a .faulty || (eqb (a .keys .0) 0 || eqb (a .keys .0) (bitOf (a .view .0)))) ≡ true
   entry : entryFits (a .entry) ≡ true
 
 serves : (n : ℕ) (a : Server) → serverOk n a ≡ true → Serves n a
 serves n a e =
     let e1 = and-right (leb (a .view .0) n) _ e in
-    let e2 = and-right (ltb (a .keys) (2 ^ n)) _ e1 in
+    let e2 = and-right (ltb (a .keys .0) (2 ^ n)) _ e1 in
     record {
       view = leb-true _ _ (and-left _ _ e);
       keys = ltb-true _ _ (and-left _ _ e1);
       own = and-left _ _ e2;
-      entry = and-right (a .faulty || (eqb (a .keys) 0 || eqb (a .keys) (bitOf (a .view .0)))) _ e2;
+      entry = and-right (a .faulty || (eqb (a .keys .0) 0 || eqb (a .keys .0) (bitOf (a .view .0)))) _ e2;
     }
 
 is-served : (n : ℕ) (a : Server) → Serves n a → serverOk n a ≡ true
@@ -112,7 +112,7 @@ server-of {w} h s i = serves (newest w) (server w s) (h .served s (i .low) (i .h
 
 pub record Mailed (w : World) (m : Message) : Type 0 where
   pub sender : senderFits (m .kind) (m .sender) ≡ true
-  pub tag : viewTagFits w (m .kind) (m .view .0) ≡ true
+  pub tag : tagRule (newest w) (m .kind) (m .view .0) ≡ true
   pub entry : entryFits (m .entry) ≡ true
 
 pub mailed : {w : World} → Formed w → (n : ℕ) → 1 ≤ n → n ≤ w .used → Mailed w (message w n)
@@ -122,7 +122,7 @@ mailed {w} h n l u =
     let e = mail-sent h n l u in
     let e1 = and-right (within READ ANSWER (m .kind)) _ e in
     let e2 = and-right (senderFits (m .kind) (m .sender)) _ e1 in
-    let e3 = and-right (viewTagFits w (m .kind) (m .view .0)) _ e2 in
+    let e3 = and-right (tagRule (newest w) (m .kind) (m .view .0)) _ e2 in
     let e4 = and-right (requestFits w m) _ e3 in
     let e5 = and-right (nextFits m) _ e4 in
     record { sender = and-left _ _ e1; tag = and-left _ _ e2; entry = and-right (entryZero m) _ e5 }
@@ -189,7 +189,7 @@ module _ {w : World} (h : Formed w) {s : ℕ} (i : IsServer s) where
     gathering-serves e =
         record {
           view = k .view;
-          keys = or-lt (newest w) (a .keys) (bitOf (m .view .0)) (k .keys) (bit-bound (m .view .0) (newest w) l u);
+          keys = or-lt (newest w) (a .keys .0) (bitOf (m .view .0)) (k .keys) (bit-bound (m .view .0) (newest w) l u);
           own = or-first (a .faulty) _ e;
           entry = k .entry;
         }
@@ -207,8 +207,8 @@ module _ {w : World} (h : Formed w) {s : ℕ} (i : IsServer s) where
       k : Serves (newest w) (server w s)
       k = server-of h s i
 
-      bounds : holds (server w s .keys) (server w s .view .0) ≡ true → (1 ≤ server w s .view .0) × (server w s .view .0 ≤ newest w)
-      bounds q = holds-bound (server w s .keys) (server w s .view .0) (newest w) q (k .keys)
+      bounds : holds (server w s .keys .0) (server w s .view .0) ≡ true → (1 ≤ server w s .view .0) × (server w s .view .0 ≤ newest w)
+      bounds q = holds-bound (server w s .keys .0) (server w s .view .0) (newest w) q (k .keys)
 
       go : present w n ≡ true → (1 ≤ n) × (n ≤ w .used) → (y : Reply) → Serving (server w s) (message w n) (member w (message w n .view .0) s) y → answers (y .answer) w s n (y .server) ≡ done a → Formed (a .world)
       go p r y (reads c q d) e = let b = bounds q in answered _ n _ k (b .0) (b .1) (asks w n p (rw c refl)) (k .entry) a (rw d at e)
@@ -248,7 +248,7 @@ module _ {w : World} (h : Formed w) {s : ℕ} (i : IsServer s) where
       let (f, f2) = passed _ _ _ _ f1 in
       let (y, f3) = passed _ _ _ _ f2 in
       let (l, e2) = passed _ _ _ _ (g .on) in
-      let b = holds-bound (server w s .keys) t (newest w) y (server-of h s i .keys) in
+      let b = holds-bound (server w s .keys .0) t (newest w) y (server-of h s i .keys) in
       subst (λ (x : After). Formed (x .world)) (done-is e2)
       (formed-send h _ (room-left w l) (answer-fits w s n (record { view = record { 0 = t }; entry = if (eqb source 0) empty (message w source .entry) }) i (b .0) (b .1) (asks w n p (and-left _ _ q)) (entries (and-right (isRequest (message w n .kind)) _ q))) refl refl)
     where
@@ -579,37 +579,19 @@ newView-kept {w} h v a e =
 
 -- ---- every step
 
-value-of : (st : Step) → fieldsFit st ≡ true → st .value ≤ lastCount
-unfolding fieldsFit
-value-of st e =
-    let e1 = and-right (within 1 7 (st .kind)) _ e in
-    let e2 = and-right (field (uses (st .kind) CLIENT || uses (st .kind) SERVER) 1 (if (uses (st .kind) CLIENT) clients servers) (st .who)) _ e1 in
-    let e3 = and-right (field (uses (st .kind) VIEW) 1 views (st .view .0)) _ e2 in
-    let e4 = and-right (field (uses (st .kind) F) 0 255 (st .f)) _ e3 in
-    let e5 = and-right (field (uses (st .kind) MESSAGE) 1 messages (st .message .0)) _ e4 in
-    go (uses (st .kind) VALUE) (and-right (field (uses (st .kind) SOURCE) 0 messages (st .source .0)) _ e5)
-  where
-    go : (b : Bool) → field b 0 lastCount (st .value) ≡ true → st .value ≤ lastCount
-    go true e = within-true 0 lastCount (st .value) e .1
-    go false e = omega (arith, eqb-true (st .value) 0 e)
-
 formed-step : {w : World} → Formed w → (st : Step) (a : After) → step w st ≡ done a → Formed (a .world)
-unfolding step perform uses
+unfolding step uses
 formed-step {w} h st a e =
     let (f, e1) = passed _ _ _ _ e in
-    go f (eqb (st .kind) 1) (eqb (st .kind) 2) (eqb (st .kind) 3) (eqb (st .kind) 4) (eqb (st .kind) 5) (eqb (st .kind) 6) refl refl refl refl refl refl e1
-  where
-    go : fieldsFit st ≡ true → (b1 b2 b3 b4 b5 b6 : Bool) → eqb (st .kind) 1 ≡ b1 → eqb (st .kind) 2 ≡ b2 → eqb (st .kind) 3 ≡ b3 → eqb (st .kind) 4 ≡ b4 → eqb (st .kind) 5 ≡ b5 → eqb (st .kind) 6 ≡ b6
-        → if b1 (begins w (st .who) WRITES (st .value)) (if b2 (begins w (st .who) READS 0) (if b3 (deliver w (st .who) (st .message .0)) (if b4 (take w (st .message .0))
-        (if b5 (fault w (st .who)) (if b6 (lie w (st .who) (st .view .0) (st .message .0) (st .source .0)) (newView w (record { members = st .value; f = st .f }))))))) ≡ done a
-        → Formed (a .world)
-    go f true b2 b3 b4 b5 b6 e1 e2 e3 e4 e5 e6 e = begins-kept h (who-client st 1 f (eqb-true _ _ e1) refl) WRITES (st .value) (inl refl) (value-of st f) a e
-    go f false true b3 b4 b5 b6 e1 e2 e3 e4 e5 e6 e = begins-kept h (who-client st 2 f (eqb-true _ _ e2) refl) READS 0 (inr (refl, refl)) (omega arith) a e
-    go f false false true b4 b5 b6 e1 e2 e3 e4 e5 e6 e = deliver-kept h (who-server st 3 f (eqb-true _ _ e3) refl refl) (st .message .0) a e
-    go f false false false true b5 b6 e1 e2 e3 e4 e5 e6 e = take-kept h (st .message .0) a e
-    go f false false false false true b6 e1 e2 e3 e4 e5 e6 e = fault-kept h (who-server st 5 f (eqb-true _ _ e5) refl refl) a e
-    go f false false false false false true e1 e2 e3 e4 e5 e6 e = lie-kept h (who-server st 6 f (eqb-true _ _ e6) refl refl) (st .view .0) (st .message .0) (st .source .0) a e
-    go f false false false false false false e1 e2 e3 e4 e5 e6 e = newView-kept h (record { members = st .value; f = st .f }) a e
+    by-kind w st f (λ x. x ≡ done a → Formed (a .world))
+    (λ q. begins-kept h (who-client st writeStep f q refl) WRITES (st .value) (inl refl) (value-of st f) a)
+    (λ q. begins-kept h (who-client st readStep f q refl) READS 0 (inr (refl, refl)) (omega arith) a)
+    (λ q. deliver-kept h (who-server st deliverStep f q refl refl) (st .message .0) a)
+    (λ q. take-kept h (st .message .0) a)
+    (λ q. fault-kept h (who-server st faultStep f q refl refl) a)
+    (λ q. lie-kept h (who-server st falseStep f q refl refl) (st .view .0) (st .message .0) (st .source .0) a)
+    (λ q. newView-kept h (viewAsked st) a)
+    e1
 
 -- Every accepted step keeps a world readable.
 pub step-kept : (w : World) → wellFormed w ≡ true → (st : Step) (a : After) → step w st ≡ done a → wellFormed (a .world) ≡ true

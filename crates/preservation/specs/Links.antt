@@ -18,10 +18,9 @@ use Rattle.protocol.specs.Worlds.{World, message, present, withMessage}
 use Rattle.protocol.specs.Chains.{follow, chain}
 use Rattle.protocol.specs.Steps.{link}
 use Rattle.protocol.specs.Readable.{takenAnswer, distinct}
-use Rattle.protocol.specs.Laws.Tests.{and-left, and-right, and-both, by-bool, clash, within-true}
+use Rattle.protocol.specs.Laws.Tests.{and-left, and-right, and-both, by-bool, clash, within-true, is-within}
 use Rattle.protocol.specs.Laws.Worlds.{content, sent, message-same, message-other, message-out, sent-link}
 use Rattle.protocol.specs.Laws.Sound.{link-used, link-other, link-answer, link-taken, link-request, not-answer}
-use Rattle.preservation.specs.Formed.{is-within}
 use Rattle.preservation.specs.Chained.{Chained, all-map, outside, pigeons, count-lacks, count-lacks-two, follow-same, follow-step, follow-enough, follow-longer}
 
 -- the answer k of w, not taken yet, to request r

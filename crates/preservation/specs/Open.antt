@@ -18,7 +18,7 @@ use Rattle.protocol.specs.Worlds.{World, client, message, newest, present}
 use Rattle.protocol.specs.Steps.{open?}
 use Rattle.protocol.specs.Readable.{isSent, phaseFits, clientFits, endingFits, wellFormed}
 use Rattle.protocol.specs.Laws.Tests.{and-left, and-right, within-true}
-use Rattle.preservation.specs.Formed.{Formed, formed}
+use Rattle.protocol.specs.Laws.Formed.{Formed, formed}
 use Rattle.preservation.specs.Updates.{present-is}
 use Rattle.preservation.specs.Kept.{mailed}
 

@@ -29,11 +29,12 @@ use Rattle.protocol.specs.Clients.{number, advance}
 use Rattle.protocol.specs.Worlds.{World, noMessage, view, server, client, message, newest, present, withServer, withClient, withView, withMessage, withAdministrator, send}
 use Rattle.protocol.specs.Chains.{follow, chain}
 use Rattle.protocol.specs.Steps.{link}
-use Rattle.protocol.specs.Readable.{isSent, endingFits, lastView, viewFits, serverFits, phaseFits, clientFits, viewTagFits, requestFits, nextFits, entryZero, senderFits, sentFits, zeroMessage, messageFits, takenAnswer, distinct}
+use Rattle.protocol.specs.Readable.{isSent, endingFits, lastView, viewFits, serverFits, phaseFits, clientFits, tagRule, requestFits, nextFits, entryZero, senderFits, sentFits, zeroMessage, messageFits, takenAnswer, distinct}
 use Rattle.protocol.specs.Laws.Tests.{and-left, and-right, and-both, clash, within-true}
 use Rattle.protocol.specs.Laws.Worlds.{content, sent, length-replace, message-new, sent-send, sent-link, server-same, server-other, client-same, client-other, view-same, view-other}
 use Rattle.protocol.specs.Laws.Sound.{link-count, link-used}
-use Rattle.preservation.specs.Formed.{and-first, and-then, Formed, Onward, ending-on, phase-on, sent-on, fits-on}
+use Rattle.protocol.specs.Laws.Formed.{Formed}
+use Rattle.preservation.specs.Formed.{and-first, and-then, Onward, ending-on, phase-on, sent-on, fits-on}
 use Rattle.preservation.specs.Chained.{Chained, chained, chain-fits, all-map, follow-same}
 use Rattle.preservation.specs.Links.{Untaken, Is, taken-is, is-taken, Short, chained-of, link-taken-other, v-taken, v-kind, v-other, link-chained}
 
@@ -42,13 +43,13 @@ use Rattle.preservation.specs.Links.{Untaken, Is, taken-is, is-taken, Sh
 -- a server's record beside the newest view
 abbrev pub serverOk : ℕ → Server → Bool
 serverOk n a =
-    leb (a .view .0) n && (ltb (a .keys) (2 ^ n) && ((a .faulty || (eqb (a .keys) 0 || eqb (a .keys) (bitOf (a .view .0)))) && entryFits (a .entry)))
+    leb (a .view .0) n && (ltb (a .keys .0) (2 ^ n) && ((a .faulty || (eqb (a .keys .0) 0 || eqb (a .keys .0) (bitOf (a .view .0)))) && entryFits (a .entry)))
 
 pub server-more : (m n : ℕ) (a : Server) → m ≤ n → serverOk m a ≡ true → serverOk n a ≡ true
 server-more m n a l e =
     let p : a .view .0 ≤ n = omega (arith, leb-true (a .view .0) m (and-left _ _ e)) in
     let r = and-right (leb (a .view .0) m) _ e in
-    and-both _ _ (le-leb _ _ p) (and-first (ltb (a .keys) (2 ^ m)) _ (ltb (a .keys) (2 ^ n)) (λ k. lt-ltb _ _ (keys (ltb-true _ _ k) (pow-mono l))) r)
+    and-both _ _ (le-leb _ _ p) (and-first (ltb (a .keys .0) (2 ^ m)) _ (ltb (a .keys .0) (2 ^ n)) (λ k. lt-ltb _ _ (keys (ltb-true _ _ k) (pow-mono l))) r)
   where
     keys : {x y z : ℕ} → x < y → y ≤ z → x < z
     keys h k = omega arith
@@ -77,7 +78,7 @@ request-of {w} h n l u k =
     let e = mail-sent h n l u in
     let e1 = and-right (within READ ANSWER (message w n .kind)) _ e in
     let e2 = and-right (senderFits (message w n .kind) (message w n .sender)) _ e1 in
-    let e3 = and-right (viewTagFits w (message w n .kind) (message w n .view .0)) _ e2 in
+    let e3 = and-right (tagRule (newest w) (message w n .kind) (message w n .view .0)) _ e2 in
     rw (eq-eqb _ _ k) at (and-left (requestFits w (message w n)) _ e3)
 
 pub present-is : (w : World) (n : ℕ) → present w n ≡ true → (1 ≤ n) × (n ≤ w .used)
@@ -309,12 +310,12 @@ unfolding sentFits content
 refit w m n c t x e =
     let e1 = and-right (within READ ANSWER (m .kind)) _ e in
     let e2 = and-right (senderFits (m .kind) (m .sender)) _ e1 in
-    let e3 = and-right (viewTagFits w (m .kind) (m .view .0)) _ e2 in
+    let e3 = and-right (tagRule (newest w) (m .kind) (m .view .0)) _ e2 in
     let e4 = and-right (requestFits w m) _ e3 in
     let e5 = and-right (nextFits m) _ e4 in
     and-both _ _ (ap (λ (y : Message). within READ ANSWER (y .kind)) c ∙ and-left _ _ e)
     (and-both _ _ (ap (λ (y : Message). senderFits (y .kind) (y .sender)) c ∙ and-left _ _ e1)
-    (and-both _ _ (ap (λ (y : Message). viewTagFits w (y .kind) (y .view .0)) c ∙ and-left _ _ e2)
+    (and-both _ _ (ap (λ (y : Message). tagRule (newest w) (y .kind) (y .view .0)) c ∙ and-left _ _ e2)
     (and-both _ _ (asked t (and-left _ _ e3))
     (and-both _ _ x
     (and-both _ _ (ap (λ (y : Message). entryZero y) c ∙ and-left (entryZero m) _ e5) (ap (λ (y : Message). entryFits (y .entry)) c ∙ and-right (entryZero m) _ e5))))))
@@ -339,7 +340,7 @@ next-fits w n e =
     let m = message w n in
     let e1 = and-right (within READ ANSWER (m .kind)) _ e in
     let e2 = and-right (senderFits (m .kind) (m .sender)) _ e1 in
-    let e3 = and-right (viewTagFits w (m .kind) (m .view .0)) _ e2 in
+    let e3 = and-right (tagRule (newest w) (m .kind) (m .view .0)) _ e2 in
     and-left (nextFits m) _ (and-right (requestFits w m) _ e3)
 
 same-content : (w : World) (k n : ℕ) → content (message (link w k) n) ≡ content (message w n)
@@ -443,7 +444,7 @@ ending-called w a t v = refl
 
 -- the clause of a view
 abbrev isZero : View → Bool
-isZero v = eqb (v .members) 0 && eqb (v .f) 0
+isZero v = eqb (v .members .0) 0 && eqb (v .f) 0
 
 pub is-view : (w : World) (t : ℕ) → (t ≤ lastView w → sized (view w t) ≡ true) → (lastView w < t → isZero (view w t) ≡ true) → viewFits w t ≡ true
 unfolding viewFits

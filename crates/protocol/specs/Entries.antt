@@ -1,6 +1,7 @@
 -- Entries and their stamps. Assumes nothing.
 use Prim.Native.Nat.{ℕ, _^_}
 use mathlib.Core.Bool.{Bool, _&&_, _||_}
+use mathlib.Core.Path.{_≡_, refl}
 use mathlib.Core.List.{List, [], _∷_}
 use lib.Dec.{ltb, leb, eqb}
 use Rattle.protocol.specs.Types.{Entry}
@@ -38,6 +39,19 @@ largest e (x ∷ xs) = largest (larger x e) xs
 abbrev pub chosen : List Entry → Entry
 chosen [] = empty
 chosen (e ∷ es) = largest e es
+
+-- the larger stamp stays; of equal ones a server keeps its own, and of a list the answer taken first is chosen
+larger-stamp : larger (entry 1 1 7) (entry 1 2 9) ≡ entry 1 2 9
+unfolding larger below
+larger-stamp = refl
+
+larger-tie : larger (entry 1 1 7) (entry 1 1 9) ≡ entry 1 1 7
+unfolding larger below
+larger-tie = refl
+
+chosen-tie : chosen (entry 1 1 9 ∷ entry 1 1 7 ∷ []) ≡ entry 1 1 7
+unfolding largest larger below
+chosen-tie = refl
 
 -- equal in every field
 unfoldable pub same : Entry → Entry → Bool

@@ -9,6 +9,7 @@ pub mod Chains
 pub mod Readable
 pub mod Steps
 pub mod Consistent
+pub mod Refuted
 pub mod Runs
 pub mod Sessions
 pub mod Laws

@@ -1,10 +1,13 @@
--- Readable worlds: document 01's sentence, clause by clause. Assumes nothing.
+-- Readable worlds: document 01's sentence, clause by clause. What a clause asks of one record alone is its rule (`viewRule`,
+-- `serverRule`, `idleRule`, `readingRule`, `messageRule` ..), said of a record and of what it must know of its world: newest is the
+-- world's newest view, and 32 for a host that knows none. `values` tests these rules, `checked` and `image` use them. The clauses of a
+-- world (`viewFits` ..) are its records' rules; `Formed` in Laws takes them apart.
 use Prim.Native.Nat.{ℕ, suc, _+_, _^_}
 use mathlib.Core.Bool.{Bool, true, not, _&&_, _||_}
 use mathlib.Core.List.{List, [], _∷_}
 use lib.ListN.{length}
 use lib.Dec.{ltb, leb, eqb}
-use Rattle.protocol.specs.Types.{Phase, Idle, Reading, Writing, Client, Ending, Settled, EndSent, Message}
+use Rattle.protocol.specs.Types.{View, Server, Phase, Idle, Reading, Writing, Client, Ending, Settled, EndSent, Administrator, Message}
 use Rattle.protocol.specs.Tools.{if, within, bit, allTo, any, all, bitOf}
 use Rattle.protocol.specs.Sizes.{clients, servers, views, messages, sized}
 use Rattle.protocol.specs.Entries.{empty, countOf, writerOf, same, entryFits}
@@ -31,31 +34,52 @@ endingFits w (EndSent r) = ltb (newest w) views && (isSent w (r .0) END 0 && eqb
 unfoldable pub headerFits : World → Bool
 headerFits w = leb (w .used) messages && (within 1 views (newest w) && endingFits w (w .administrator .ending))
 
--- "views obey the size rule"; "Beyond newest (newest+1 while ending) all zero."
+-- "Beyond newest (newest+1 while ending) all zero.": the last view that is not
+abbrev pub lastOf : Administrator → ℕ
+lastOf a = a .newest .0 + bit (isEnding (a .ending))
+
 unfoldable pub lastView : World → ℕ
-lastView w = newest w + bit (isEnding (w .administrator .ending))
+lastView w = lastOf (w .administrator)
+
+-- "views obey the size rule"
+abbrev pub viewRule : ℕ → ℕ → View → Bool
+viewRule last t v = if (leb t last) (sized v) (eqb (v .members .0) 0 && eqb (v .f) 0)
 
 unfoldable pub viewFits : World → ℕ → Bool
-viewFits w t = if (leb t (lastView w)) (sized (view w t)) (eqb (view w t .members) 0 && eqb (view w t .f) 0)
+viewFits w t = viewRule (lastView w) t (view w t)
 
--- "server ... and key views do not exceed newest"; "a correct server has no key but its own view's"
+-- "a correct server has no key but its own view's"
+abbrev pub keyRule : Server → Bool
+keyRule a = a .faulty || (eqb (a .keys .0) 0 || eqb (a .keys .0) (bitOf (a .view .0)))
+
+-- "server ... and key views do not exceed newest"
+abbrev pub serverRule : ℕ → Server → Bool
+serverRule newest a = leb (a .view .0) newest && (ltb (a .keys .0) (2 ^ newest) && (keyRule a && entryFits (a .entry)))
+
 unfoldable pub serverFits : World → ℕ → Bool
-serverFits w s =
-    leb (server w s .view .0) (newest w)
-    && (ltb (server w s .keys) (2 ^ newest w)
-    && ((server w s .faulty || (eqb (server w s .keys) 0 || eqb (server w s .keys) (bitOf (server w s .view .0))))
-    && entryFits (server w s .entry)))
+serverFits w s = serverRule (newest w) (server w s)
 
--- "open phases ... name a message of the right kind and sender"; "Kind 0 goes only with phase 0 and the empty entry."
--- "in phase 1 of a write only its value is set, of a read it is zero; in phase 2 it is what is written"
+-- "Kind 0 goes only with phase 0 and the empty entry."
+abbrev pub idleRule : Client → Bool
+idleRule a = leb (a .kind) READS && (not (eqb (a .kind) NONE) || same (a .entry) empty)
+
+-- an open phase is that of a write or a read
+abbrev pub kindRule : ℕ → Bool
+kindRule kind = within WRITES READS kind
+
+-- "in phase 1 of a write only its value is set, of a read it is zero"
+abbrev pub askingRule : Client → Bool
+askingRule a = eqb (countOf (a .entry)) 0 && (eqb (writerOf (a .entry)) 0 && (eqb (a .kind) WRITES || eqb (a .entry .value) 0))
+
+-- a reading client; sent: its READ was
+abbrev pub readingRule : Client → Bool → Bool
+readingRule a sent = kindRule (a .kind) && (sent && askingRule a)
+
+-- "open phases ... name a message of the right kind and sender"; "in phase 2 it is what is written"
 abbrev pub phaseFits : World → ℕ → Client → Phase → Bool
-phaseFits w c a Idle = leb (a .kind) READS && (not (eqb (a .kind) NONE) || same (a .entry) empty)
-phaseFits w c a (Reading r) =
-    within WRITES READS (a .kind)
-    && (isSent w (r .0) READ c
-    && (eqb (countOf (a .entry)) 0 && (eqb (writerOf (a .entry)) 0 && (eqb (a .kind) WRITES || eqb (a .entry .value) 0))))
-phaseFits w c a (Writing r) =
-    within WRITES READS (a .kind) && (isSent w (r .0) WRITE c && same (a .entry) (message w (r .0) .entry))
+phaseFits w c a Idle = idleRule a
+phaseFits w c a (Reading r) = readingRule a (isSent w (r .0) READ c)
+phaseFits w c a (Writing r) = kindRule (a .kind) && (isSent w (r .0) WRITE c && same (a .entry) (message w (r .0) .entry))
 
 unfoldable pub clientFits : World → ℕ → Bool
 clientFits w c = entryFits (client w c .entry) && phaseFits w c (client w c) (client w c .phase)
@@ -66,14 +90,19 @@ senderFits kind sender =
     if (leb kind WRITE) (within 1 clients sender) (if (leb kind START) (eqb sender 0) (within 1 servers sender))
 
 -- "view u8 (0 for 1 and 2)"; "message ... views do not exceed newest, and messages of kind 3 to 5 have a view of at least 1"
-abbrev pub viewTagFits : World → ℕ → ℕ → Bool
-viewTagFits w kind t = if (leb kind WRITE) (eqb t 0) (within 1 (newest w) t)
+abbrev pub tagRule : ℕ → ℕ → ℕ → Bool
+tagRule newest kind t = if (leb kind WRITE) (eqb t 0) (within 1 newest t)
 
--- "an answer's request has kind 1 to 3"; "taken u8 (0 or 1) and request u16 (both 0 but in answers)"
+-- "an answer's request has kind 1 to 3"
+abbrev pub isAsked : World → ℕ → Bool
+isAsked w n = present w n && isRequest (message w n .kind)
+
+-- "taken u8 (0 or 1) and request u16 (both 0 but in answers)"; asked: the request can be an answer's
+abbrev pub requestRule : Message → Bool → Bool
+requestRule m asked = if (eqb (m .kind) ANSWER) asked (not (m .taken) && eqb (m .request .0) 0)
+
 abbrev pub requestFits : World → Message → Bool
-requestFits w m =
-    if (eqb (m .kind) ANSWER) (present w (m .request .0) && isRequest (message w (m .request .0) .kind))
-    (not (m .taken) && eqb (m .request .0) 0)
+requestFits w m = requestRule m (isAsked w (m .request .0))
 
 -- "next u16 (0 in a START and an untaken answer)"
 abbrev pub nextFits : Message → Bool
@@ -83,12 +112,15 @@ nextFits m = (isRequest (m .kind) || m .taken) || eqb (m .next .0) 0
 abbrev pub entryZero : Message → Bool
 entryZero m = not (eqb (m .kind) READ || eqb (m .kind) END) || same (m .entry) empty
 
--- "kind u8 (1 to 4, or 5 answer)"
-unfoldable pub sentFits : World → Message → Bool
-sentFits w m =
+-- "kind u8 (1 to 4, or 5 answer)", and the other fields by the kind
+abbrev pub messageRule : ℕ → Message → Bool → Bool
+messageRule newest m asked =
     within READ ANSWER (m .kind)
     && (senderFits (m .kind) (m .sender)
-    && (viewTagFits w (m .kind) (m .view .0) && (requestFits w m && (nextFits m && (entryZero m && entryFits (m .entry))))))
+    && (tagRule newest (m .kind) (m .view .0) && (requestRule m asked && (nextFits m && (entryZero m && entryFits (m .entry))))))
+
+unfoldable pub sentFits : World → Message → Bool
+sentFits w m = messageRule (newest w) m (isAsked w (m .request .0))
 
 unfoldable pub zeroMessage : Message → Bool
 zeroMessage m =

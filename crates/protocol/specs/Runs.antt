@@ -20,13 +20,49 @@ u16At b at = getD b at 0 + 256 * getD b (at + 1) 0
 abbrev pub u32At : List ℕ → ℕ → ℕ
 u32At b at = u16At b at + 65536 * u16At b (at + 2)
 
+-- the widths of numbers
+abbrev pub u8Width : ℕ
+u8Width = 1
+
+abbrev pub u16Width : ℕ
+u16Width = 2
+
+abbrev pub u32Width : ℕ
+u32Width = 4
+
 -- "Step, 12 bytes: kind u8, who u8, view u8, f u8, message u16, source u16, value u32."
+abbrev pub whoPlace : ℕ
+whoPlace = u8Width
+
+abbrev pub stepViewPlace : ℕ
+stepViewPlace = whoPlace + u8Width
+
+abbrev pub stepThresholdPlace : ℕ
+stepThresholdPlace = stepViewPlace + u8Width
+
+abbrev pub stepMessagePlace : ℕ
+stepMessagePlace = stepThresholdPlace + u8Width
+
+abbrev pub sourcePlace : ℕ
+sourcePlace = stepMessagePlace + u16Width
+
+abbrev pub stepValuePlace : ℕ
+stepValuePlace = sourcePlace + u16Width
+
 abbrev pub stepWidth : ℕ
-stepWidth = 12
+stepWidth = stepValuePlace + u32Width
 
 unfoldable pub stepOf : List ℕ → Step
 stepOf b =
-    record { kind = getD b 0 0; who = getD b 1 0; view = record { 0 = getD b 2 0 }; f = getD b 3 0; message = number (u16At b 4); source = number (u16At b 6); value = u32At b 8 }
+    record {
+      kind = getD b 0 0;
+      who = getD b whoPlace 0;
+      view = record { 0 = getD b stepViewPlace 0 };
+      f = getD b stepThresholdPlace 0;
+      message = number (u16At b stepMessagePlace);
+      source = number (u16At b sourcePlace);
+      value = u32At b stepValuePlace;
+    }
 
 -- a step given by its bytes: "1, ... step of wrong length"
 unfoldable pub stepBytes : World → List ℕ → Result After

@@ -43,15 +43,15 @@ keeping a e = record { view = a .view; faulty = a .faulty; keys = a .keys; entry
 
 -- "then gives the key up"
 unfoldable pub withoutKey : Server → Server
-withoutKey a = record { view = a .view; faulty = a .faulty; keys = 0; entry = a .entry }
+withoutKey a = record { view = a .view; faulty = a .faulty; keys = record { 0 = 0 }; entry = a .entry }
 
 -- "takes view t and its key, drops any older key, and keeps the larger stamp as in WRITE"
 unfoldable pub joining : Server → Message → Server
-joining a m = record { view = m .view; faulty = a .faulty; keys = bitOf (m .view .0); entry = larger (a .entry) (m .entry) }
+joining a m = record { view = m .view; faulty = a .faulty; keys = record { 0 = bitOf (m .view .0) }; entry = larger (a .entry) (m .entry) }
 
 -- "A START of view t still gives it key t ...; nothing else of its record changes."
 unfoldable pub gathering : Server → Message → Server
-gathering a m = record { view = a .view; faulty = a .faulty; keys = bitOr (a .keys) (bitOf (m .view .0)); entry = a .entry }
+gathering a m = record { view = a .view; faulty = a .faulty; keys = record { 0 = bitOr (a .keys .0) (bitOf (m .view .0)) }; entry = a .entry }
 
 -- "READ (1): it answers with its view and entry."
 abbrev pub read : Server → Message → Result Reply
@@ -71,7 +71,7 @@ abbrev pub start : Server → Message → Bool → Result Reply
 start a m member =
     guard (member && ltb (a .view .0) (m .view .0)) 7
     (if (a .faulty)
-    (guard (not (holds (a .keys) (m .view .0))) 7 (done (record { server = gathering a m; answer = none })))
+    (guard (not (holds (a .keys .0) (m .view .0))) 7 (done (record { server = gathering a m; answer = none })))
     (done (record { server = joining a m; answer = none })))
 
 -- "A correct server serves kinds 1 to 3 while it holds the key of its own view; START asks for no key."
@@ -81,14 +81,14 @@ serve a m member =
     guard (within READ START (m .kind)) 5
     (if (eqb (m .kind) START) (start a m member)
     (guard (not (a .faulty)) 6
-    (guard (holds (a .keys) (a .view .0)) 7
+    (guard (holds (a .keys .0) (a .view .0)) 7
     (if (eqb (m .kind) READ) (read a m)
     (if (eqb (m .kind) WRITE) (write a m) (end a m))))))
 
 -- "It may answer any request of kind 1 to 3 with any view whose key it holds": 5, 6, 9
 unfoldable pub mayAnswer : Server → ℕ → Message → Bool → Result Server
 mayAnswer a t m source =
-    guard (isRequest (m .kind) && source) 5 (guard (a .faulty) 6 (guard (holds (a .keys) t) 9 (done a)))
+    guard (isRequest (m .kind) && source) 5 (guard (a .faulty) 6 (guard (holds (a .keys .0) t) 9 (done a)))
 
 -- the number and values of each case of a server's answer
 abbrev pub served : Served → Result Reply

@@ -6,7 +6,7 @@ use mathlib.Core.Path.{_≡_, refl}
 use mathlib.Core.List.{List, [], _∷_, _++_}
 use Rattle.protocol.specs.Types.{Entry, Reading, Writing}
 use Rattle.protocol.specs.Tools.{countTo, allTo, any, holds, bitOf, nth, replace, done, guard}
-use Rattle.protocol.specs.Sizes.{quorum, size, sized, readSize, writeSize}
+use Rattle.protocol.specs.Sizes.{viewWith, quorum, size, sized, readSize, writeSize}
 use Rattle.protocol.specs.Entries.{entry, empty, below, larger, largest, chosen}
 use Rattle.protocol.specs.Servers.{WRITE, keeping, withoutKey, joining, gathering, serve, mayAnswer}
 use Rattle.protocol.specs.Clients.{WRITES, READS, number, begin, toWrite, countLeft, close, call, advance}
@@ -46,7 +46,7 @@ new-view bits f = bytes 7 0 0 f 0 0 bits
 -- ---- what is computed of a run from the fresh world of given members and f
 
 abbrev pub begun : ℕ → ℕ → World
-begun bits f = freshWorld (record { members = bits; f = f })
+begun bits f = freshWorld (viewWith bits f)
 
 -- the run; whoever unfolds it unfolds all that a step computes with
 unfoldable pub run-of : ℕ → ℕ → List (List ℕ) → Run

@@ -34,13 +34,17 @@ quorum n f = (n + f + 2) / 2
 unfoldable pub quorumSize : ℕ → ℕ → Result ℕ
 quorumSize n f = guard (leb n servers && sizeRule n f) 8 (done (quorum n f))
 
+-- a view of member bits and a threshold
+abbrev pub viewWith : ℕ → ℕ → View
+viewWith bits f = record { members = record { 0 = bits }; f = f }
+
 -- "a server set N(t) of n servers and a threshold f(t)"
 unfoldable pub size : View → ℕ
-size v = countTo (holds (v .members)) servers
+size v = countTo (holds (v .members .0)) servers
 
 -- the size rule of a view; its member bits name servers 1 to 32
 unfoldable pub sized : View → Bool
-sized v = ltb (v .members) (2 ^ 32) && sizeRule (size v) (v .f)
+sized v = ltb (v .members .0) (2 ^ 32) && sizeRule (size v) (v .f)
 
 -- the answers that close READ, and those that close WRITE and END
 unfoldable pub readSize : View → ℕ

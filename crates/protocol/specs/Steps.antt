@@ -7,12 +7,34 @@ use lib.ListN.{getD}
 use lib.Dec.{eqb}
 use Rattle.protocol.specs.Types.{Entry, View, Server, Message, Step, Shown}
 use Rattle.protocol.specs.Tools.{if, within, Result, done, guard, then}
-use Rattle.protocol.specs.Sizes.{clients, servers, views, messages, lastCount, writeSize}
+use Rattle.protocol.specs.Sizes.{clients, servers, views, messages, lastCount, viewWith, writeSize}
 use Rattle.protocol.specs.Entries.{empty, chosen}
 use Rattle.protocol.specs.Servers.{READ, WRITE, END, START, ANSWER, serve, mayAnswer}
 use Rattle.protocol.specs.Clients.{WRITES, READS, number, begin, requestOf, closeSize, close, endOf, call, advance}
 use Rattle.protocol.specs.Worlds.{World, view, server, client, message, newest, member, present, room, withServer, withClient, withView, withMessage, withAdministrator, send, nextNumber}
 use Rattle.protocol.specs.Chains.{chain, enough, shown}
+
+-- "1 write ... 2 read ... 3 deliver ... 4 take ... 5 fault ... 6 false answer ... 7 new view"
+abbrev pub writeStep : ℕ
+writeStep = 1
+
+abbrev pub readStep : ℕ
+readStep = 2
+
+abbrev pub deliverStep : ℕ
+deliverStep = 3
+
+abbrev pub takeStep : ℕ
+takeStep = 4
+
+abbrev pub faultStep : ℕ
+faultStep = 5
+
+abbrev pub falseStep : ℕ
+falseStep = 6
+
+abbrev pub viewStep : ℕ
+viewStep = 7
 
 -- the fields that a step may use, a flag each; who is a client or a server
 abbrev pub CLIENT : ℕ
@@ -60,7 +82,7 @@ field used low high x = if used (within low high x) (eqb x 0)
 -- "Any f and value are in range; source is 0 to 1,023."
 unfoldable pub fieldsFit : Step → Bool
 fieldsFit st =
-    within 1 7 (st .kind)
+    within writeStep viewStep (st .kind)
     && (field (uses (st .kind) CLIENT || uses (st .kind) SERVER) 1 (if (uses (st .kind) CLIENT) clients servers) (st .who)
     && (field (uses (st .kind) VIEW) 1 views (st .view .0)
     && (field (uses (st .kind) F) 0 255 (st .f)
@@ -178,16 +200,20 @@ newView w v =
     (λ a. guard (room w) 10
     (moved (send (withView (withAdministrator w a) (newest w + 1) v) (request END 0 (newest w) empty))))
 
--- "1 write ... 2 read ... 3 deliver ... 4 take ... 5 fault ... 6 false answer ... 7 new view"
+-- "new view: f, value (member bits)"
+abbrev pub viewAsked : Step → View
+viewAsked st = viewWith (st .value) (st .f)
+
+-- what a step does, by its kind
 unfoldable pub perform : World → Step → Result After
 perform w st =
-    if (eqb (st .kind) 1) (begins w (st .who) WRITES (st .value))
-    (if (eqb (st .kind) 2) (begins w (st .who) READS 0)
-    (if (eqb (st .kind) 3) (deliver w (st .who) (st .message .0))
-    (if (eqb (st .kind) 4) (take w (st .message .0))
-    (if (eqb (st .kind) 5) (fault w (st .who))
-    (if (eqb (st .kind) 6) (lie w (st .who) (st .view .0) (st .message .0) (st .source .0))
-    (newView w (record { members = st .value; f = st .f })))))))
+    if (eqb (st .kind) writeStep) (begins w (st .who) WRITES (st .value))
+    (if (eqb (st .kind) readStep) (begins w (st .who) READS 0)
+    (if (eqb (st .kind) deliverStep) (deliver w (st .who) (st .message .0))
+    (if (eqb (st .kind) takeStep) (take w (st .message .0))
+    (if (eqb (st .kind) faultStep) (fault w (st .who))
+    (if (eqb (st .kind) falseStep) (lie w (st .who) (st .view .0) (st .message .0) (st .source .0))
+    (newView w (viewAsked st)))))))
 
 -- a step of a world: 3, then by kind
 unfoldable pub step : World → Step → Result After

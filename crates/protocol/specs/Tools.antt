@@ -28,6 +28,11 @@ unfoldable pub allTo : (ℕ → Bool) → ℕ → Bool
 allTo p zero = true
 allTo p (suc n) = allTo p n && p (suc n)
 
+-- the sum of g 1 to g n
+unfoldable pub sumTo : (ℕ → ℕ) → ℕ → ℕ
+sumTo g zero = 0
+sumTo g (suc n) = sumTo g n + g (suc n)
+
 -- whether some element of a list passes p; whether all do
 unfoldable pub any : {A : Type 0} → (A → Bool) → List A → Bool
 any p [] = false
@@ -79,3 +84,15 @@ pub passed : {A : Type 0} (b : Bool) (n : ℕ) (x : Result A) (v : A) → guard 
 unfolding guard
 passed true n x v e = (refl, e)
 passed false n x v e = (cc, cc)
+
+-- tests that pass together, taken apart and put together
+pub both : (a b : Bool) → a && b ≡ true → (a ≡ true) × (b ≡ true)
+both true b e = (refl, e)
+both false b e = (cc, cc)
+
+pub join : {a b : Bool} → a ≡ true → b ≡ true → a && b ≡ true
+join p q = rw (p, q)
+
+-- an answer found test by test: a test of a row passes and the rest decides
+pub pass : {a b r : Bool} → a ≡ true → r ≡ b → r ≡ a && b
+pass e f = rw e f

@@ -3,6 +3,8 @@ pub use Rattle.protocol.specs.declared.StampCount.{StampCount}
 pub use Rattle.protocol.specs.declared.ViewNumber.{ViewNumber}
 pub use Rattle.protocol.specs.declared.MessageNumber.{MessageNumber}
 pub use Rattle.protocol.specs.declared.ServerNumber.{ServerNumber}
+pub use Rattle.protocol.specs.declared.ServerSet.{ServerSet}
+pub use Rattle.protocol.specs.declared.KeySet.{KeySet}
 pub use Rattle.protocol.specs.declared.Stamp.{Stamp}
 pub use Rattle.protocol.specs.declared.Entry.{Entry}
 pub use Rattle.protocol.specs.declared.View.{View}

@@ -6,7 +6,7 @@ use lib.ListN.{getD, set, replicate}
 use lib.Dec.{ltb, leb}
 use Rattle.protocol.specs.Types.{View, Server, Idle, Client, Settled, Administrator, Message}
 use Rattle.protocol.specs.Tools.{if, countTo, allTo, within, holds, nth, replace, Result, done, guard}
-use Rattle.protocol.specs.Sizes.{clients, servers, views, messages, sized}
+use Rattle.protocol.specs.Sizes.{clients, servers, messages, viewWith, sized}
 use Rattle.protocol.specs.Entries.{empty}
 use Rattle.protocol.specs.Clients.{NONE, number}
 
@@ -20,10 +20,10 @@ pub record World : Type 0 where
   pub messageList : List Message
 
 abbrev pub noView : View
-noView = record { members = 0; f = 0 }
+noView = viewWith 0 0
 
 abbrev pub noServer : Server
-noServer = record { view = record { 0 = 0 }; faulty = false; keys = 0; entry = empty }
+noServer = record { view = record { 0 = 0 }; faulty = false; keys = record { 0 = 0 }; entry = empty }
 
 abbrev pub noClient : Client
 noClient = record { phase = Idle; kind = NONE; entry = empty }
@@ -48,7 +48,7 @@ newest w = w .administrator .newest .0
 
 -- server s is in N(t)
 unfoldable pub member : World → ℕ → ℕ → Bool
-member w t s = holds (view w t .members) s
+member w t s = holds (view w t .members .0) s
 
 -- a message of that number was sent
 unfoldable pub present : World → ℕ → Bool
@@ -90,7 +90,7 @@ nextNumber w = w .used + 1
 
 -- "Members hold view 1, key 1 and the empty entry"
 abbrev pub freshServer : ℕ → ℕ → Server
-freshServer bits s = if (holds bits s) (record { view = record { 0 = 1 }; faulty = false; keys = 1; entry = empty }) noServer
+freshServer bits s = if (holds bits s) (record { view = record { 0 = 1 }; faulty = false; keys = record { 0 = 1 }; entry = empty }) noServer
 
 -- the list of g 1 to g n
 unfoldable pub listTo : {A : Type 0} → (ℕ → A) → ℕ → List A
@@ -104,7 +104,7 @@ freshWorld v =
       used = 0;
       administrator = record { newest = record { 0 = 1 }; ending = Settled };
       viewList = v ∷ replicate 31 noView;
-      serverList = listTo (freshServer (v .members)) servers;
+      serverList = listTo (freshServer (v .members .0)) servers;
       clientList = replicate clients noClient;
       messageList = replicate (suc messages) noMessage;
     }
@@ -112,12 +112,12 @@ freshWorld v =
 -- "Fresh world (member bits, f): ... 8, size rule broken."
 unfoldable pub fresh : ℕ → ℕ → Result World
 fresh bits f =
-    let v : View = record { members = bits; f = f } in
+    let v : View = viewWith bits f in
     guard (sized v) 8 (done (freshWorld v))
 
 -- "a faulty server counts against view t as long as it holds key t"
 unfoldable pub bad : World → ℕ → ℕ → Bool
-bad w t s = server w s .faulty && holds (server w s .keys) t
+bad w t s = server w s .faulty && holds (server w s .keys .0) t
 
 -- "The premise holds if no view t has more than f(t) such servers"
 unfoldable pub premise : World → Bool

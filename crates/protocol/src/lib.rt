@@ -1,6 +1,7 @@
 // The records of the protocol. The rules on them are the definitions in specs/.
 pub mod kinds;
 pub mod limits;
+pub mod refusals;
 
 // Four counters, counted apart.
 pub struct StampCount(pub u32);
@@ -10,6 +11,11 @@ pub struct ViewNumber(pub u8);
 pub struct MessageNumber(pub u16);
 
 pub struct ServerNumber(pub u8);
+
+// Two sets of numbers as bits, not of one type: the servers of a view, server s at bit s-1, and the keys of a server, key t at bit t-1.
+pub struct ServerSet(pub u32);
+
+pub struct KeySet(pub u32);
 
 // Compared by count, then writer.
 pub struct Stamp {
@@ -22,17 +28,17 @@ pub struct Entry {
     pub value: u32,
 }
 
-// A view's server set, bit s-1 for server s, and its threshold.
+// A view: its server set and its threshold.
 pub struct View {
-    pub members: u32,
+    pub members: ServerSet,
     pub f: u8,
 }
 
-// A server's record; key t is bit t-1 of keys.
+// A server's record.
 pub struct Server {
     pub view: ViewNumber,
     pub faulty: bool,
-    pub keys: u32,
+    pub keys: KeySet,
     pub entry: Entry,
 }
 

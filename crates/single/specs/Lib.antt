@@ -1,4 +1,3 @@
-pub mod Records
 pub mod Rules
 pub mod Calls
 pub mod Shown

@@ -13,6 +13,7 @@ use Rattle.protocol.specs.declared.Message.{Message}
 use Rattle.protocol.specs.Tools.{if, Result, refused, done, guard, numberOf}
 use Rattle.protocol.specs.Servers.{Reply}
 use Rattle.protocol.specs.Clients.{Close}
+use Rattle.protocol.specs.Steps.{writeStep, readStep, deliverStep, takeStep, falseStep, viewStep}
 use Rattle.checked.specs.Rules.{serveRule, falseAnswerRule, writeRule, readRule, closeRule, callRule, advanceRule}
 
 -- the record stays as it is, and nothing is answered by the rule itself
@@ -24,8 +25,8 @@ stays a n = if (eqb n 0) (done (record { server = a; answer = none })) (refused 
 unfoldable pub serverRule : Server → Message → ℕ → ℕ → ℕ → Result Reply
 serverRule a m rule flag t =
     guard (leb flag 1) 3
-    (if (eqb rule 3) (guard (eqb t 0) 3 (serveRule a m (eqb flag 1)))
-    (guard (eqb rule 6) 3 (stays a (numberOf (falseAnswerRule a t m (eqb flag 1))))))
+    (if (eqb rule deliverStep) (guard (eqb t 0) 3 (serveRule a m (eqb flag 1)))
+    (guard (eqb rule falseStep) 3 (stays a (numberOf (falseAnswerRule a t m (eqb flag 1))))))
 
 -- a client that begins has its READ open
 abbrev pub opens : Result Client → Result Close
@@ -38,14 +39,14 @@ blankStamp s = eqb (s .count .0) 0 && eqb (s .writer) 0
 -- 1 write of the entry's value, 2 read, 4 the close with an entry; n is the number of the message that it sends
 unfoldable pub clientRule : Client → ℕ → ℕ → ℕ → Entry → Result Close
 clientRule c rule who n e =
-    if (eqb rule 4) (closeRule c who e n)
+    if (eqb rule takeStep) (closeRule c who e n)
     (guard (eqb who 0) 3
     (guard (blankStamp (e .stamp)) 3
-    (if (eqb rule 1) (opens (writeRule c (e .value) n))
-    (guard (eqb rule 2) 3 (guard (eqb (e .value) 0) 3 (opens (readRule c n)))))))
+    (if (eqb rule writeStep) (opens (writeRule c (e .value) n))
+    (guard (eqb rule readStep) 3 (guard (eqb (e .value) 0) 3 (opens (readRule c n)))))))
 
 -- 7 new view v, END being number n; 4 the close of END
 unfoldable pub administratorRule : Administrator → ℕ → ℕ → View → Result Administrator
 administratorRule a rule n v =
-    if (eqb rule 7) (callRule a v n)
-    (guard (eqb rule 4) 3 (guard (eqb n 0) 3 (guard (eqb (v .members) 0) 3 (guard (eqb (v .f) 0) 3 (advanceRule a)))))
+    if (eqb rule viewStep) (callRule a v n)
+    (guard (eqb rule takeStep) 3 (guard (eqb n 0) 3 (guard (eqb (v .members .0) 0) 3 (guard (eqb (v .f) 0) 3 (advanceRule a)))))

@@ -11,6 +11,7 @@ use Rattle.protocol.specs.declared.Server.{Server}
 use Rattle.protocol.specs.declared.Message.{Message}
 use Rattle.protocol.specs.Tools.{if, Result, refused, done, guard, numberOf}
 use Rattle.protocol.specs.Servers.{READ, WRITE, START, Reply, keeping, withoutKey, start, serve}
+use Rattle.protocol.specs.Steps.{deliverStep}
 use Rattle.checked.specs.Rules.{serveRule, falseAnswerRule}
 use Rattle.single.specs.Rules.{stays, serverRule}
 use Rattle.single.specs.Calls.{serverCall}
@@ -61,7 +62,7 @@ own-rule : (a : Server) (m : Message) (rule flag t : ℕ) → Own (serverRule a 
 unfolding serverRule serveRule
 own-rule a m rule flag t =
     own-guard _ _ _
-    (own-if (eqb rule 3) _ _ (own-guard _ _ _ (own-guard _ _ _ (own-serve a m (eqb flag 1))))
+    (own-if (eqb rule deliverStep) _ _ (own-guard _ _ _ (own-guard _ _ _ (own-serve a m (eqb flag 1))))
     (own-guard _ _ _ (own-stays a (numberOf (falseAnswerRule a t m (eqb flag 1))))))
 
 own-call : (s b : List ℕ) → Own (serverCall s b)

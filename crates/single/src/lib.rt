@@ -1,4 +1,3 @@
 // Single machines as lent bytes: a record, what is asked of it, and the record written back.
 pub mod calls;
-pub mod records;
 pub mod rules;

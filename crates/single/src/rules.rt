@@ -17,22 +17,29 @@ use protocol::Server;
 use protocol::Stamp;
 use protocol::View;
 use protocol::ViewNumber;
+use protocol::kinds::DELIVER_STEP;
+use protocol::kinds::FALSE_STEP;
+use protocol::kinds::READ_STEP;
+use protocol::kinds::TAKE_STEP;
+use protocol::kinds::VIEW_STEP;
+use protocol::kinds::WRITE_STEP;
+use protocol::refusals::UNFIT;
 
 // A server's rules, by the kinds of their steps: 3 deliver, 6 false answer.
 pub fn server_rule(a: Server, m: Message, rule: u8, flag: u8, view: u8) -> Served
     ensures { λ r. ⌜ served r ≡ serverRule a m rule flag view ⌝ }
 {
     if 1 < flag {
-        return Served::ServeRefused(3);
+        return Served::ServeRefused(UNFIT);
     }
-    if rule == 3 {
+    if rule == DELIVER_STEP {
         if view != 0 {
-            return Served::ServeRefused(3);
+            return Served::ServeRefused(UNFIT);
         }
         return rules::serve_rule(a, m, flag == 1);
     }
-    if rule != 6 {
-        return Served::ServeRefused(3);
+    if rule != FALSE_STEP {
+        return Served::ServeRefused(UNFIT);
     }
     let refusal = rules::false_answer_rule(a, ViewNumber(view), m, flag == 1);
     if refusal != 0 {
@@ -64,24 +71,24 @@ fn blank(s: Stamp) -> bool
 pub fn client_rule(c: Client, rule: u8, who: u8, n: MessageNumber, e: Entry) -> Closing
     ensures { λ r. ⌜ closing r ≡ clientRule c rule who (n .0) e ⌝ }
 {
-    if rule == 4 {
+    if rule == TAKE_STEP {
         return rules::close_rule(c, who, e, n);
     }
     let stamp = e.stamp;
     if who != 0 {
-        return Closing::CloseRefused(3);
+        return Closing::CloseRefused(UNFIT);
     }
     if !blank(stamp) {
-        return Closing::CloseRefused(3);
+        return Closing::CloseRefused(UNFIT);
     }
-    if rule == 1 {
+    if rule == WRITE_STEP {
         return opening(rules::write_rule(c, e.value, n));
     }
-    if rule != 2 {
-        return Closing::CloseRefused(3);
+    if rule != READ_STEP {
+        return Closing::CloseRefused(UNFIT);
     }
     if e.value != 0 {
-        return Closing::CloseRefused(3);
+        return Closing::CloseRefused(UNFIT);
     }
     opening(rules::read_rule(c, n))
 }
@@ -90,20 +97,21 @@ pub fn client_rule(c: Client, rule: u8, who: u8, n: MessageNumber, e: Entry) -> 
 pub fn administrator_rule(a: Administrator, rule: u8, n: MessageNumber, v: View) -> Called
     ensures { λ r. ⌜ called r ≡ administratorRule a rule (n .0) v ⌝ }
 {
-    if rule == 7 {
+    if rule == VIEW_STEP {
         return rules::call_rule(a, v, n);
     }
-    if rule != 4 {
-        return Called::CallRefused(3);
+    if rule != TAKE_STEP {
+        return Called::CallRefused(UNFIT);
     }
     if n.0 != 0 {
-        return Called::CallRefused(3);
+        return Called::CallRefused(UNFIT);
     }
-    if v.members != 0 {
-        return Called::CallRefused(3);
+    let members = v.members;
+    if members.0 != 0 {
+        return Called::CallRefused(UNFIT);
     }
     if v.f != 0 {
-        return Called::CallRefused(3);
+        return Called::CallRefused(UNFIT);
     }
     rules::advance_rule(a)
 }

@@ -1,6 +1,6 @@
 -- Sets of the numbers 1 to 32 as bits, and their laws. Assumes nothing.
-use Prim.Native.Nat.{ℕ, zero, suc, _+_, _-_, _*_, _/_, _%_, _^_, _≤_, _<_, zero-le}
-use mathlib.Core.Bool.{Bool, true, false}
+use Prim.Native.Nat.{ℕ, zero, suc, _+_, _-_, _*_, _/_, _%_, _^_, _≤_, _<_}
+use mathlib.Core.Bool.{Bool, false}
 use mathlib.Core.Path.{_≡_, refl, sym, ap, ap₂, _∙_}
 use native.Mathlib.Nat.{add-comm, mod-lt, mod-one, mod-eq-of-lt, div-eq-of-lt}
 use native.Mathlib.Omega.{arith}
@@ -84,15 +84,6 @@ unfolding countTo
 count-same p q zero h = refl
 count-same p q (suc n) h =
     rw (count-same p q n (λ s a b. h s a (omega arith)), h (suc n) (omega arith) (omega arith))
-
-bit-le : (b : Bool) → bit b ≤ 1
-bit-le true = omega arith
-bit-le false = omega arith
-
-pub count-le : (p : ℕ → Bool) (n : ℕ) → countTo p n ≤ n
-unfolding countTo
-count-le p zero = zero-le
-count-le p (suc n) = omega (arith, count-le p n, bit-le (p (suc n)))
 
 -- a set of one number holds that number alone
 of-held : (k s : ℕ) → 0 < s → holds (bitOf k) s ≡ eqb k s

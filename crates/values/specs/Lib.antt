@@ -1,4 +1,3 @@
 pub mod Bits
 pub mod Sizes
 pub mod Tallies
-pub mod Records

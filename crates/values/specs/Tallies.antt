@@ -20,16 +20,16 @@ use Rattle.values.specs.Bits.{bitIn, bit-held, count-same}
 
 -- the answer just taken
 unfoldable pub firstAnswer : Message → Tally
-firstAnswer m = record { seen = bitIn (m .sender); best = m .entry }
+firstAnswer m = record { seen = record { 0 = bitIn (m .sender) }; best = m .entry }
 
 -- one older answer more: "the answers taken with that answer's view t"; "equal stamps: the one taken first"
 unfoldable pub addAnswer : Tally → ℕ → Message → Tally
 addAnswer a t m =
-    if (eqb (m .view .0) t) (record { seen = bitOr (a .seen) (bitIn (m .sender)); best = larger (m .entry) (a .best) }) a
+    if (eqb (m .view .0) t) (record { seen = record { 0 = bitOr (a .seen .0) (bitIn (m .sender)) }; best = larger (m .entry) (a .best) }) a
 
 -- the entry chosen, where the answers come from enough different servers
 unfoldable pub closesAt : Tally → ℕ → Option Entry
-closesAt a size = if (leb size (countTo (holds (a .seen)) servers)) (some (a .best)) none
+closesAt a size = if (leb size (countTo (holds (a .seen .0)) servers)) (some (a .best)) none
 
 -- the tally of view t along the answers ks of a world, from the newest to the oldest, a being that of those before them
 unfoldable pub tallyFrom : World → ℕ → Tally → List ℕ → Tally
@@ -42,29 +42,29 @@ tallyOf w k ks = tallyFrom w (message w k .view .0) (firstAnswer (message w k)) 
 
 -- the servers seen are those heard
 added : (b : Bool) (a : Tally) (m : Message) (s : ℕ) → 0 < s → s ≤ 32
-    → holds ((if b (record { seen = bitOr (a .seen) (bitIn (m .sender)); best = larger (m .entry) (a .best) }) a) .seen) s
-    ≡ holds (a .seen) s || (b && eqb (m .sender) s)
-added true a m s h k = holds-or (a .seen) (bitIn (m .sender)) s ∙ ap (λ (b : Bool). holds (a .seen) s || b) (bit-held (m .sender) s h k)
-added false a m s h k = sym (or-false (holds (a .seen) s))
+    → holds ((if b (record { seen = record { 0 = bitOr (a .seen .0) (bitIn (m .sender)) }; best = larger (m .entry) (a .best) }) a) .seen .0) s
+    ≡ holds (a .seen .0) s || (b && eqb (m .sender) s)
+added true a m s h k = holds-or (a .seen .0) (bitIn (m .sender)) s ∙ ap (λ (b : Bool). holds (a .seen .0) s || b) (bit-held (m .sender) s h k)
+added false a m s h k = sym (or-false (holds (a .seen .0) s))
 
 or-assoc : (a b c : Bool) → (a || b) || c ≡ a || (b || c)
 or-assoc true b c = refl
 or-assoc false b c = refl
 
 pub seen-heard : (w : World) (t : ℕ) (a : Tally) (ks : List ℕ) (s : ℕ) → 0 < s → s ≤ 32
-    → holds (tallyFrom w t a ks .seen) s ≡ holds (a .seen) s || heard w t ks s
+    → holds (tallyFrom w t a ks .seen .0) s ≡ holds (a .seen .0) s || heard w t ks s
 unfolding tallyFrom addAnswer heard any
-seen-heard w t a [] s h k = sym (or-false (holds (a .seen) s))
+seen-heard w t a [] s h k = sym (or-false (holds (a .seen .0) s))
 seen-heard w t a (x ∷ ks) s h k =
     let m : Message = message w x in
     let b : Bool = eqb (m .view .0) t in
     seen-heard w t (addAnswer a t m) ks s h k
     ∙ ap (λ (c : Bool). c || heard w t ks s) (added b a m s h k)
-    ∙ or-assoc (holds (a .seen) s) (b && eqb (m .sender) s) (heard w t ks s)
+    ∙ or-assoc (holds (a .seen .0) s) (b && eqb (m .sender) s) (heard w t ks s)
 
 -- the best is the largest of those shown
 kept : (b : Bool) (a : Tally) (m : Message) (es : List Entry)
-    → largest ((if b (record { seen = bitOr (a .seen) (bitIn (m .sender)); best = larger (m .entry) (a .best) }) a) .best) es
+    → largest ((if b (record { seen = record { 0 = bitOr (a .seen .0) (bitIn (m .sender)) }; best = larger (m .entry) (a .best) }) a) .best) es
     ≡ largest (a .best) (if b (m .entry ∷ es) es)
 unfolding largest
 kept true a m es = refl
@@ -82,7 +82,7 @@ own : (w : World) (k : ℕ) → tagged w (message w k .view .0) k ≡ true
 own w k = eq-eqb (message w k .view .0) (message w k .view .0) refl
 
 pub first-seen : (w : World) (k s : ℕ) (ks : List ℕ) → 0 < s → s ≤ 32
-    → holds (tallyOf w k ks .seen) s ≡ heard w (message w k .view .0) (k ∷ ks) s
+    → holds (tallyOf w k ks .seen .0) s ≡ heard w (message w k .view .0) (k ∷ ks) s
 unfolding tallyOf firstAnswer heard any
 first-seen w k s ks h b =
     let t : ℕ = message w k .view .0 in
@@ -91,9 +91,9 @@ first-seen w k s ks h b =
 
 -- as many servers are seen as are heard
 pub seen-count : (w : World) (k : ℕ) (ks : List ℕ)
-    → countTo (holds (tallyOf w k ks .seen)) servers ≡ countTo (heard w (message w k .view .0) (k ∷ ks)) servers
+    → countTo (holds (tallyOf w k ks .seen .0)) servers ≡ countTo (heard w (message w k .view .0) (k ∷ ks)) servers
 seen-count w k ks =
-    count-same (holds (tallyOf w k ks .seen)) (heard w (message w k .view .0) (k ∷ ks)) servers (λ s h b. first-seen w k s ks h b)
+    count-same (holds (tallyOf w k ks .seen .0)) (heard w (message w k .view .0) (k ∷ ks)) servers (λ s h b. first-seen w k s ks h b)
 
 pub best-chosen : (w : World) (k : ℕ) (ks : List ℕ) → tallyOf w k ks .best ≡ chosen (shown w (message w k .view .0) (k ∷ ks))
 unfolding tallyOf firstAnswer shown

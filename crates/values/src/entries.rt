@@ -7,11 +7,11 @@ ghost use mathlib.Core.Path.{_≡_};
 ghost use Rattle.protocol.specs.Entries.{entry, empty, below, larger, same, entryFits};
 
 // The entry of a count, a writer and a value.
-pub fn entry_of(count: u32, writer: u8, value: u32) -> Entry
-    ensures { λ r. ⌜ r ≡ entry count writer value ⌝ }
+pub fn entry_of(count: StampCount, writer: u8, value: u32) -> Entry
+    ensures { λ r. ⌜ r ≡ entry (count .0) writer value ⌝ }
 {
     let stamp = Stamp {
-        count: StampCount(count),
+        count: count,
         writer: writer,
     };
     Entry {
@@ -47,9 +47,9 @@ pub fn larger(a: Entry, b: Entry) -> Entry
     let n = y.count;
     let later = below(a, b);
     if later {
-        return entry_of(n.0, y.writer, b.value);
+        return entry_of(n, y.writer, b.value);
     }
-    entry_of(m.0, x.writer, a.value)
+    entry_of(m, x.writer, a.value)
 }
 
 // Whether two entries agree in every field.

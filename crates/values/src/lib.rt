@@ -2,5 +2,6 @@
 // single records.
 pub mod entries;
 pub mod records;
+pub mod sets;
 pub mod sizes;
 pub mod tally;

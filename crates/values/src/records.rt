@@ -1,7 +1,9 @@
 // The tests of single records that need no image. `newest` is the newest view of an image, and 32 for a host that knows none.
 use super::entries;
+use super::sets;
 use super::sizes;
 use protocol::Client;
+use protocol::KeySet;
 use protocol::Message;
 use protocol::MessageNumber;
 use protocol::Server;
@@ -22,8 +24,8 @@ ghost use mathlib.Core.Path.{_≡_};
 ghost use Prim.Native.Nat.{_^_};
 ghost use lib.Dec.{ltb};
 ghost use Rattle.protocol.specs.Tools.{within};
-ghost use Rattle.protocol.specs.Readable.{senderFits, nextFits, entryZero, zeroMessage};
-ghost use Rattle.values.specs.Records.{viewRule, keyRule, serverRule, idleRule, kindRule, askingRule, readingRule, tagRule, requestRule, messageRule};
+ghost use Rattle.protocol.specs.Readable.{viewRule, keyRule, serverRule, idleRule, kindRule, askingRule, readingRule};
+ghost use Rattle.protocol.specs.Readable.{senderFits, tagRule, requestRule, nextFits, entryZero, messageRule, zeroMessage};
 
 // The number of a message: 1 to the last.
 pub fn number_within(n: MessageNumber, last: u16) -> bool
@@ -53,20 +55,21 @@ pub fn view_fits(v: View, t: ViewNumber, last: ViewNumber) -> bool
     if n <= last.0 {
         return sizes::sized(v);
     }
-    if v.members != 0 {
+    let members = v.members;
+    if members.0 != 0 {
         return false;
     }
     v.f == 0
 }
 
 // The keys are those of views 1 to newest.
-fn keys_within(keys: u32, newest: ViewNumber) -> bool
-    ensures { λ r. ⌜ r ≡ ltb keys (2 ^ (newest .0)) ⌝ }
+fn keys_within(keys: KeySet, newest: ViewNumber) -> bool
+    ensures { λ r. ⌜ r ≡ ltb (keys .0) (2 ^ (newest .0)) ⌝ }
 {
     if VIEWS <= newest.0 {
         return true;
     }
-    (keys as u64) < (1u64 << newest.0)
+    (keys.0 as u64) < (1u64 << newest.0)
 }
 
 // "a correct server has no key but its own view's"
@@ -74,14 +77,15 @@ fn key_fits(s: Server) -> bool
     ensures { λ r. ⌜ r ≡ keyRule s ⌝ }
 {
     let view = s.view;
+    let keys = s.keys;
     if s.faulty {
         return true;
     }
-    if s.keys == 0 {
+    if keys.0 == 0 {
         return true;
     }
-    let own = sizes::bit_of(view.0);
-    s.keys == own
+    let own = sets::key_of(view);
+    keys.0 == own.0
 }
 
 // "server ... and key views do not exceed newest"; "writers are at most 16"
@@ -89,11 +93,12 @@ pub fn server_fits(s: Server, newest: ViewNumber) -> bool
     ensures { λ r. ⌜ r ≡ serverRule (newest .0) s ⌝ }
 {
     let view = s.view;
+    let keys = s.keys;
     let entry = s.entry;
     if newest.0 < view.0 {
         return false;
     }
-    if !keys_within(s.keys, newest) {
+    if !keys_within(keys, newest) {
         return false;
     }
     if !key_fits(s) {

@@ -1,14 +1,11 @@
-// Sets of numbers as bits, sizes of views and quorums.
+// Sizes of views and quorums.
+use super::sets;
 use protocol::View;
 use protocol::limits::SERVERS;
+use protocol::refusals::WRONG_SIZE;
 ghost use mathlib.Core.Path.{_≡_};
-ghost use Rattle.protocol.specs.Tools.{holds};
 ghost use Rattle.protocol.specs.Sizes.{quorumSize, size, sized, readSize, writeSize};
-ghost use Rattle.values.specs.Bits.{bitIn};
 ghost use Rattle.values.specs.Sizes.{sizing};
-
-// A set of bits holds the numbers 1 to 32.
-const LAST_NUMBER: u8 = 32;
 
 const LAST_SERVER: u32 = SERVERS as u32;
 
@@ -26,51 +23,26 @@ pub fn quorum_size(n: u32, f: u32) -> QuorumSize
     ensures { λ r. ⌜ sizing r ≡ quorumSize n f ⌝ }
 {
     if n < 1 {
-        return QuorumSize::SizeRefused(8);
+        return QuorumSize::SizeRefused(WRONG_SIZE);
     }
     if LAST_SERVER < n {
-        return QuorumSize::SizeRefused(8);
+        return QuorumSize::SizeRefused(WRONG_SIZE);
     }
     if MOST_FAULTS < f {
-        return QuorumSize::SizeRefused(8);
+        return QuorumSize::SizeRefused(WRONG_SIZE);
     }
     if n < 3 * f + 1 {
-        return QuorumSize::SizeRefused(8);
+        return QuorumSize::SizeRefused(WRONG_SIZE);
     }
     QuorumSize::Size((n + f + 2) / 2)
-}
-
-// Whether number k is in a set of bits.
-pub fn holds(bits: u32, k: u8) -> bool
-    ensures { λ r. ⌜ r ≡ holds bits k ⌝ }
-{
-    if k == 0 {
-        return false;
-    }
-    if LAST_NUMBER < k {
-        return false;
-    }
-    (bits >> (k - 1)) % 2 == 1
-}
-
-// The set of number k alone; none for 0 and for a number over 32.
-pub fn bit_of(k: u8) -> u32
-    ensures { λ r. ⌜ r ≡ bitIn k ⌝ }
-{
-    if k == 0 {
-        return 0;
-    }
-    if LAST_NUMBER < k {
-        return 0;
-    }
-    1u32 << (k - 1)
 }
 
 // The number of servers of a view.
 pub fn size_of(v: View) -> u32
     ensures { λ r. ⌜ r ≡ size v ⌝ }
 {
-    u32::count_ones(v.members)
+    let members = v.members;
+    sets::servers_in(members)
 }
 
 // The size rule of a view.

@@ -1,17 +1,19 @@
 // What a walk along taken answers gathers, from the newest to the oldest.
 use super::entries;
-use super::sizes;
+use super::sets;
 use protocol::Entry;
 use protocol::Message;
+use protocol::ServerNumber;
+use protocol::ServerSet;
 use protocol::Taken;
 use protocol::ViewNumber;
 ghost use mathlib.Core.Path.{_≡_};
 ghost use Rattle.protocol.specs.Clients.{taken};
 ghost use Rattle.values.specs.Tallies.{firstAnswer, addAnswer, closesAt};
 
-// The servers heard, bit s-1 for server s, and the largest entry that they showed.
+// The servers heard, and the largest entry that they showed.
 pub struct Tally {
-    pub seen: u32,
+    pub seen: ServerSet,
     pub best: Entry,
 }
 
@@ -20,7 +22,7 @@ pub fn first_answer(m: Message) -> Tally
     ensures { λ r. ⌜ r ≡ firstAnswer m ⌝ }
 {
     let best = m.entry;
-    let seen = sizes::bit_of(m.sender);
+    let seen = sets::server_alone(ServerNumber(m.sender));
     Tally {
         seen: seen,
         best: best,
@@ -38,9 +40,10 @@ pub fn add_answer(a: Tally, t: ViewNumber, m: Message) -> Tally
     let shown = m.entry;
     let had = a.best;
     let best = entries::larger(shown, had);
-    let bit = sizes::bit_of(m.sender);
+    let heard = a.seen;
+    let seen = sets::with_server(heard, ServerNumber(m.sender));
     Tally {
-        seen: a.seen | bit,
+        seen: seen,
         best: best,
     }
 }
@@ -50,7 +53,9 @@ pub fn closes(a: Tally, size: u32) -> Taken
     ensures { λ r. ⌜ taken r ≡ closesAt a size ⌝ }
 {
     let best = a.best;
-    if size <= u32::count_ones(a.seen) {
+    let heard = a.seen;
+    let n = sets::servers_in(heard);
+    if size <= n {
         return Taken::Closed(best);
     }
     Taken::Open

@@ -36,7 +36,7 @@ kept-used w s b u e = ap (λ (n : ℕ). n + 1) e
 -- a false answer that is not refused
 may-done : (a : Server) (t : ℕ) (m : Message) (b : Bool) → numberOf (mayAnswer a t m b) ≡ 0 → mayAnswer a t m b ≡ done a
 unfolding mayAnswer guard
-may-done a t m b e = go (isRequest (m .kind) && b) (a .faulty) (holds (a .keys) t) e
+may-done a t m b e = go (isRequest (m .kind) && b) (a .faulty) (holds (a .keys .0) t) e
   where
     go : (x y z : Bool) → numberOf (guard x 5 (guard y 6 (guard z 9 (done a)))) ≡ 0 → guard x 5 (guard y 6 (guard z 9 (done a))) ≡ done a
     go true true true e = refl
@@ -67,9 +67,9 @@ module _ {l : List ℕ} (h : Legible l) where
   unfolding member view nth
   member-none t s e = rw e (sym (holds-none s))
 
-  pub member-is : (t s : ℕ) (v : View) → 1 ≤ t → t ≤ views → v ≡ viewAt l t → holds (v .members) s ≡ member w t s
+  pub member-is : (t s : ℕ) (v : View) → 1 ≤ t → t ≤ views → v ≡ viewAt l t → holds (v .members .0) s ≡ member w t s
   unfolding member
-  member-is t s v a b p = ap (λ (x : View). holds (x .members) s) (p ∙ view-is h t a b)
+  member-is t s v a b p = ap (λ (x : View). holds (x .members .0) s) (p ∙ view-is h t a b)
 
   -- the source of a false answer
   pub source-none : (n : ℕ) → n ≡ 0 → true ≡ source? w n

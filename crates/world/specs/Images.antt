@@ -11,7 +11,7 @@ use Rattle.protocol.specs.Readable.{wellFormed}
 use Rattle.codec.specs.Layout.{imageSize}
 use Rattle.codec.specs.Places.{putUsed, putMessage}
 use Rattle.codec.specs.Images.{encode, decode}
-pub use Rattle.consistency.specs.Steps.{leftBy, answered}
+pub use Rattle.image.specs.Steps.{leftBy, answered}
 use Rattle.world.specs.declared.Stepped.{Stepped}
 use Rattle.world.specs.declared.Stepped.the-variants.{StepRefused, StepDone}
 

@@ -6,4 +6,5 @@ pub mod Checks
 pub mod Puts
 pub mod Views
 pub mod Takes
+pub mod Gathered
 pub mod Performs

@@ -10,12 +10,12 @@ use Rattle.protocol.specs.declared.Step.{Step}
 use Rattle.protocol.specs.Tools.{guard}
 use Rattle.protocol.specs.Clients.{WRITES, READS}
 use Rattle.protocol.specs.Worlds.{World}
-use Rattle.protocol.specs.Steps.{begins, deliver, take, fault, lie, newView, fieldsFit, perform, step}
+use Rattle.protocol.specs.Steps.{begins, deliver, take, fault, lie, newView, fieldsFit, perform, step, viewAsked}
 use Rattle.protocol.specs.Runs.{stepWidth, stepOf}
 use Rattle.codec.specs.Layout.{imageSize}
 use Rattle.codec.specs.Images.{decode}
 use Rattle.image.specs.Readable.{readable, read}
-use Rattle.consistency.specs.Steps.{stepOn}
+use Rattle.image.specs.Steps.{stepOn}
 use Rattle.world.specs.declared.Stepped.the-variants.{StepRefused}
 use Rattle.world.specs.Images.{Legible, Does}
 use Rattle.world.specs.Stored.{refuses}
@@ -50,7 +50,7 @@ module _ (w : World) (st : Step) where
   as-false e = rw (sym (kind-is 6 1 e), sym (kind-is 6 2 e), sym (kind-is 6 3 e), sym (kind-is 6 4 e), sym (kind-is 6 5 e), sym (kind-is 6 6 e)) refl
 
   pub as-view : (st .kind ≡ 1 → ⊥) → (st .kind ≡ 2 → ⊥) → (st .kind ≡ 3 → ⊥) → (st .kind ≡ 4 → ⊥) → (st .kind ≡ 5 → ⊥) → (st .kind ≡ 6 → ⊥)
-      → perform w st ≡ newView w (record { members = st .value; f = st .f })
+      → perform w st ≡ newView w (viewAsked st)
   unfolding perform
   as-view a b c d e f = rw (ne-eqb (st .kind) 1 a, ne-eqb (st .kind) 2 b, ne-eqb (st .kind) 3 c, ne-eqb (st .kind) 4 d, ne-eqb (st .kind) 5 e, ne-eqb (st .kind) 6 f) refl
 

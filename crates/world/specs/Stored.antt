@@ -19,7 +19,7 @@ use Rattle.codec.specs.Layout.{imageSize}
 use Rattle.codec.specs.Places.{usedAt, putUsed, administratorAt, putAdministrator, viewAt, putView, serverAt, putServer, clientAt, putClient, messageAt, putMessage}
 use Rattle.codec.specs.Images.{encode, decode}
 use Rattle.codec.specs.Laws.{Full, length-encode, put-view, put-server, put-client, put-message, put-administrator, put-send, full-view, full-server, full-client, full-message, full-administrator, full-send, used-decode, administrator-decode, decode-full, view-decode, server-decode, client-decode, message-decode}
-use Rattle.preservation.specs.Formed.{Formed, formed}
+use Rattle.protocol.specs.Laws.Formed.{Formed, formed}
 use Rattle.world.specs.declared.Stepped.{Stepped}
 use Rattle.world.specs.declared.Stepped.the-variants.{StepDone}
 use Rattle.world.specs.Images.{stepped, answered, leftBy, Legible, Does, putSent}

@@ -30,10 +30,11 @@ use Rattle.protocol.specs.Clients.{number, requestOf, closeSize, Close, close, 
 use Rattle.protocol.specs.Worlds.{World, view, client, message, newest, present, room, withClient, withAdministrator, send, nextNumber}
 use Rattle.protocol.specs.Chains.{follow, chain, enough, shown}
 use Rattle.protocol.specs.Steps.{After, moved, request, link, open?, takenWith, closes, starts, takes, take}
-use Rattle.protocol.specs.Readable.{endingFits, senderFits, viewTagFits, sentFits, takenAnswer}
+use Rattle.protocol.specs.Readable.{endingFits, senderFits, tagRule, sentFits, takenAnswer}
 use Rattle.protocol.specs.Laws.Tests.{and-left, and-right, within-true}
 use Rattle.protocol.specs.Laws.Sound.{link-used}
-use Rattle.preservation.specs.Formed.{Formed, is-within}
+use Rattle.protocol.specs.Laws.Formed.{Formed}
+use Rattle.protocol.specs.Laws.Tests.{is-within}
 use Rattle.preservation.specs.Chained.{chained, all-map}
 use Rattle.preservation.specs.Links.{Untaken, taken-is}
 use Rattle.preservation.specs.Updates.{mail-sent, request-of, present-is}
@@ -144,7 +145,7 @@ pub sender-of : {w : World} → Formed w → (n : ℕ) → 1 ≤ n → n ≤ w .
 unfolding sentFits
 sender-of {w} h n b u = and-left _ _ (and-right (within READ ANSWER (message w n .kind)) _ (mail-sent h n b u))
 
-pub tag-of : {w : World} → Formed w → (n : ℕ) → 1 ≤ n → n ≤ w .used → viewTagFits w (message w n .kind) (message w n .view .0) ≡ true
+pub tag-of : {w : World} → Formed w → (n : ℕ) → 1 ≤ n → n ≤ w .used → tagRule (newest w) (message w n .kind) (message w n .view .0) ≡ true
 unfolding sentFits
 tag-of {w} h n b u =
     and-left _ _ (and-right (senderFits (message w n .kind) (message w n .sender)) _ (and-right (within READ ANSWER (message w n .kind)) _ (mail-sent h n b u)))

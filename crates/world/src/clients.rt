@@ -13,6 +13,7 @@ use codec::places::store_client;
 use machines::clients::begin;
 use protocol::Begun;
 use protocol::MessageNumber;
+use protocol::StampCount;
 use protocol::ViewNumber;
 use protocol::kinds::READ;
 use protocol::limits::MESSAGES;
@@ -33,7 +34,7 @@ pub fn begins(image: &mut [u8], c: u8, kind: u8, value: u32) -> Stepped
             if MESSAGES <= used {
                 return Stepped::StepRefused(10);
             }
-            let read = request(READ, c, ViewNumber(0), entry_of(0, 0, 0));
+            let read = request(READ, c, ViewNumber(0), entry_of(StampCount(0), 0, 0));
             store_client(image, c, next);
             send(image, n, read);
             Stepped::StepDone(0)

@@ -5,6 +5,7 @@ pub mod mail;
 pub mod servers;
 pub mod step;
 pub mod take;
+mod tally;
 pub mod views;
 
 // A step's answer: a refusal, or the client whose operation it completed, or 0.

@@ -28,12 +28,13 @@ use protocol::MessageNumber;
 use protocol::Server;
 use protocol::ServerNumber;
 use protocol::Shown;
+use protocol::StampCount;
 use protocol::ViewNumber;
 use protocol::kinds::START;
 use protocol::kinds::WRITE;
 use protocol::limits::MESSAGES;
 use values::entries::entry_of;
-use values::sizes::holds;
+use values::sets::has_server;
 
 // Server s is in N(t).
 fn is_member(image: &[u8], t: ViewNumber, s: ServerNumber) -> bool
@@ -41,12 +42,12 @@ fn is_member(image: &[u8], t: ViewNumber, s: ServerNumber) -> bool
     ensures { λ r. ⌜ r ≡ memberOf (decode (now (image .entry))) (t .0) (s .0) ⌝ }
 {
     let k = t.0;
-    let who = s.0;
     if k == 0 {
         return false;
     }
     let v = load_view(image, t);
-    holds(v.members, who)
+    let members = v.members;
+    has_server(members, s)
 }
 
 // The server's record is kept and its answer sent: 10 where no number is left.
@@ -97,6 +98,7 @@ pub fn fault(image: &mut [u8], s: ServerNumber) -> Stepped
 {
     let a = load_server(image, s);
     let view = a.view;
+    let keys = a.keys;
     let entry = a.entry;
     if a.faulty {
         return Stepped::StepRefused(6);
@@ -104,7 +106,7 @@ pub fn fault(image: &mut [u8], s: ServerNumber) -> Stepped
     let b = Server {
         view: view,
         faulty: true,
-        keys: a.keys,
+        keys: keys,
         entry: entry,
     };
     store_server(image, s, b);
@@ -136,7 +138,7 @@ fn shown_entry(image: &[u8], n: MessageNumber) -> Entry
 {
     let k = n.0;
     if k == 0 {
-        return entry_of(0, 0, 0);
+        return entry_of(StampCount(0), 0, 0);
     }
     let m = load_message(image, n);
     m.entry

@@ -5,7 +5,7 @@ ghost use lib.ListN.{length};
 ghost use Rattle.protocol.specs.Steps.{fieldsFit, perform as performOn, step as stepOf};
 ghost use Rattle.protocol.specs.Runs.{stepWidth, stepOf as stepIn};
 ghost use Rattle.codec.specs.Images.{decode};
-ghost use Rattle.consistency.specs.Steps.{stepOn};
+ghost use Rattle.image.specs.Steps.{stepOn};
 ghost use Rattle.world.specs.Images.{Legible, Does};
 use super::Stepped;
 use super::clients::begins;
@@ -20,6 +20,7 @@ use codec::layout::STEP;
 use codec::records::read_step;
 use image::readable::readable;
 use protocol::ServerNumber;
+use protocol::ServerSet;
 use protocol::Step;
 use protocol::View;
 use protocol::kinds::READS;
@@ -45,7 +46,7 @@ fn perform(image: &mut [u8], st: Step) -> Stepped
         _ => new_view(
             image,
             View {
-                members: st.value,
+                members: ServerSet(st.value),
                 f: st.f,
             },
         ),

@@ -4,16 +4,17 @@ ghost use Prim.Native.Nat.{_≤_, _<_};
 ghost use Rattle.protocol.specs.Sizes.{clients, views};
 ghost use Rattle.protocol.specs.Clients.{taken as takenBy};
 ghost use Rattle.protocol.specs.Worlds.{newest as newestOf};
-ghost use Rattle.protocol.specs.Chains.{follow};
 ghost use Rattle.protocol.specs.Steps.{link as linkOf, open?, closes as closesOf, starts, take as takeOf};
-ghost use Rattle.values.specs.Tallies.{tallyFrom};
 ghost use Rattle.codec.specs.Images.{encode, decode};
 ghost use Rattle.world.specs.Images.{Legible, Does};
-ghost use Rattle.world.specs.Takes.{Walk, Takable, Asked, closesWith, linked as linkedOf, wrote, endTaken, clientTaken};
+ghost use Rattle.world.specs.Takes.{Takable, Asked, closesWith, linked as linkedOf, wrote, endTaken, clientTaken};
 use super::Stepped;
 use super::mail::present;
 use super::mail::request;
 use super::mail::send;
+use super::tally::gather;
+use super::tally::gathered;
+use super::tally::opened;
 use codec::places::load_administrator;
 use codec::places::load_client;
 use codec::places::load_message;
@@ -33,6 +34,7 @@ use protocol::Closing;
 use protocol::Entry;
 use protocol::Message;
 use protocol::MessageNumber;
+use protocol::ServerNumber;
 use protocol::Taken;
 use protocol::ViewNumber;
 use protocol::kinds::ANSWER;
@@ -40,33 +42,9 @@ use protocol::kinds::END;
 use protocol::kinds::START;
 use protocol::kinds::WRITE;
 use protocol::limits::MESSAGES;
+use values::sets::server_alone;
 use values::sizes::write_size;
-use values::tally::Tally;
-use values::tally::add_answer;
 use values::tally::closes;
-use values::tally::first_answer;
-
-// The tally of view t from message n on, with left links still allowed; a is that of the answers before it. "From a request the
-// links are followed until zero"; a loop, so that a long chain takes no stack.
-fn tally(image: &[u8], t: ViewNumber, n: MessageNumber, left: u16, a: Tally) -> Tally
-    requires { ⌜ Walk (now image) left (n .0) ⌝ }
-    ensures { λ r. ⌜ r ≡ tallyFrom (decode (now (image .entry))) (t .0) a (follow (decode (now (image .entry))) left (n .0)) ⌝ }
-{
-    let mut k = n.0;
-    let mut links = left;
-    let mut gathered = a;
-    while 0 < k {
-        if links < 1 {
-            return gathered;
-        }
-        let m = load_message(image, MessageNumber(k));
-        let next = m.next;
-        gathered = add_answer(gathered, t, m);
-        k = next.0;
-        links -= 1;
-    }
-    gathered
-}
 
 // "A phase closes when, by the answer just taken, the answers taken with that answer's view t come from at least q(t)
 // different servers.": k is that answer, and size is q(t).
@@ -79,9 +57,11 @@ fn taken_with(image: &[u8], k: MessageNumber, size: u32) -> Taken
     let r = m.request;
     let q = load_message(image, r);
     let head = q.next;
-    let own = first_answer(m);
-    let gathered = tally(image, t, head, MESSAGES, own);
-    closes(gathered, size)
+    let own = server_alone(ServerNumber(m.sender));
+    let first = gathered(own, k);
+    let answers = gather(image, t, head, MESSAGES, first);
+    let tally = opened(image, answers);
+    closes(tally, size)
 }
 
 // A message with its mark and its link.

@@ -12,6 +12,7 @@ use codec::places::store_view;
 use machines::administrator::call;
 use protocol::Called;
 use protocol::MessageNumber;
+use protocol::StampCount;
 use protocol::View;
 use protocol::ViewNumber;
 use protocol::kinds::END;
@@ -28,7 +29,7 @@ pub fn new_view(image: &mut [u8], v: View) -> Stepped
     let before = load_administrator(image);
     let newest = before.newest;
     let t = newest.0;
-    let empty = entry_of(0, 0, 0);
+    let empty = entry_of(StampCount(0), 0, 0);
     let called = call(before, v, MessageNumber(used + 1));
     match called {
         Called::CallRefused(n) => Stepped::StepRefused(n),

@@ -1,5 +1,5 @@
-//! Writes the sessions of the program into a folder: for each a folder of its
-//! own with the files `stdin` and `stdout`.
+//! Writes the sessions of the program into a folder: for each its input,
+//! `NAME.in`, and what the program prints, `NAME.out`.
 
 use std::fs;
 use std::io;
@@ -43,8 +43,10 @@ fn usage() -> ExitCode {
 }
 
 fn write(folder: &Path, session: &Session) -> io::Result<()> {
-    let folder = folder.join(&session.name);
-    fs::create_dir_all(&folder)?;
-    fs::write(folder.join("stdin"), &session.input)?;
-    fs::write(folder.join("stdout"), session.output())
+    fs::create_dir_all(folder)?;
+    fs::write(folder.join(format!("{}.in", session.name)), &session.input)?;
+    fs::write(
+        folder.join(format!("{}.out", session.name)),
+        session.output(),
+    )
 }

@@ -1,6 +1,7 @@
+use native.Mathlib.Omega.{arith}
 use mathlib.Core.Path.{sym, ap, _∙_}
 use Rattle.protocol.specs.Clients.{called}
-use Rattle.single.specs.Calls.{administrator-size}
+use Rattle.single.specs.Calls.{administrator-size, administrator-written}
 use borrow.Author.Needs.{needs}
 use Rattle.exports.proofs.zw_administrator.Statement.{statement}
 use Rattle.exports.proofs.zw_administrator.Tie as tie
@@ -18,7 +19,7 @@ enum-known-step-2 : tie.Need-enum-known-step-2
 enum-known-step-2 c = search needs
 
 write-administrator-requires : tie.Need-write-administrator-requires
-write-administrator-requires c κs = administrator-size _ (c .before .before .before .before .before .before .before .before .args .call .now) _ (sym (c .before .before .before .before .administrator-call .ensures) ∙ ap called (c .before .before .step2 .given .1))
+write-administrator-requires c κs = omega (arith, administrator-size _ (c .before .before .before .before .before .before .before .before .args .call .now) _ (sym (c .before .before .before .before .administrator-call .ensures) ∙ ap called (c .before .before .step2 .given .1)))
 
 same-length : tie.Need-same-length
 same-length c = search needs
@@ -30,7 +31,7 @@ same-length-2 : tie.Need-same-length-2
 same-length-2 c = search needs
 
 returns-2 : tie.Need-returns-2
-returns-2 c = (rw (sym (c .before .before .before .before .before .before .before .administrator-call .ensures), c .before .before .before .before .before .step2 .given .1), rw (sym (c .before .before .before .before .before .before .before .administrator-call .ensures), c .before .before .before .before .before .step2 .given .1) (c .before .before .write-administrator .ensures))
+returns-2 c = (rw (sym (c .before .before .before .before .before .before .before .administrator-call .ensures), c .before .before .before .before .before .step2 .given .1), rw (sym (c .before .before .before .before .before .before .before .administrator-call .ensures), c .before .before .before .before .before .step2 .given .1) (c .before .before .write-administrator .ensures ∙ administrator-written _ (c .before .before .before .before .before .before .before .before .before .before .before .args .call .now) _ (sym (c .before .before .before .before .before .before .before .administrator-call .ensures) ∙ ap called (c .before .before .before .before .before .step2 .given .1))))
 
 pub zw-administrator-spec : {M : Type 1} → statement M
 zw-administrator-spec = tie.close (tie.spec administrator-call-requires enum-known-step cast-result enum-known-step-2 write-administrator-requires same-length returns same-length-2 returns-2)

@@ -1,3 +1,5 @@
+use mathlib.Core.Path.{ap₂, _∙_}
+use Prim.Native.Nat.{ℕ, _+_, _*_}
 use native.Mathlib.Omega.{arith}
 use borrow.Author.Needs.{needs}
 use Rattle.exports.specs.Answers.{steps-low}
@@ -7,20 +9,18 @@ use Rattle.exports.proofs.zw_replay.Tie as tie
 replay-requires : tie.Need-replay-requires
 replay-requires c κs = search needs
 
-cast-result : tie.Need-cast-result
-cast-result c = search needs
-
-mul-result : tie.Need-mul-result
-mul-result c = omega (arith, steps-low (c .before .before .before .before .before .before .before .args .image .now) (c .before .before .before .before .before .before .before .args .journal .now), c .before .before .before .replay .ensures .steps)
-
-add-result : tie.Need-add-result
-add-result c = omega (arith, steps-low (c .before .before .before .before .before .before .before .args .image .now) (c .before .before .before .before .before .before .before .args .journal .now), c .before .before .before .replay .ensures .steps)
+packed-requires : tie.Need-packed-requires
+packed-requires c κs =
+    let a = c .before .before .before .before .before .before .args in
+    omega (arith, steps-low (a .image .now) (a .journal .now), c .before .before .replay .ensures .steps)
 
 same-length : tie.Need-same-length
 same-length c = search needs
 
 returns : tie.Need-returns
-returns c = search needs
+returns c =
+    let e = c .before .before .before .replay .ensures in
+    (c .packed .ensures ∙ ap₂ (λ (x y : ℕ). x + 256 * y) (e .refusal) (e .steps), e .image)
 
 pub zw-replay-spec : {M : Type 1} → statement M
-zw-replay-spec = tie.close (tie.spec replay-requires cast-result mul-result add-result same-length returns)
+zw-replay-spec = tie.close (tie.spec replay-requires packed-requires same-length returns)

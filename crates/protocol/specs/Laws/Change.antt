@@ -8,7 +8,7 @@ use Rattle.protocol.specs.Types.{Entry, Server, Message, Idle, Reading, 
 use Rattle.protocol.specs.Tools.{countTo, holds}
 use Rattle.protocol.specs.Sizes.{servers, readSize, writeSize}
 use Rattle.protocol.specs.Entries.{empty}
-use Rattle.protocol.specs.Servers.{READ, WRITE, END, START, ANSWER, isRequest}
+use Rattle.protocol.specs.Servers.{WRITE, END, START, ANSWER, isRequest}
 use Rattle.protocol.specs.Clients.{number, toWrite}
 use Rattle.protocol.specs.Worlds.{World, view, server, client, newest, member}
 use Rattle.protocol.specs.Laws.Entries.{_≼_}
@@ -16,7 +16,7 @@ use Rattle.protocol.specs.Laws.Worlds.{sent}
 
 -- a server may lie under a key that it holds
 abbrev pub lying : Server → ℕ → Bool
-lying a t = a .faulty && holds (a .keys) t
+lying a t = a .faulty && holds (a .keys .0) t
 
 -- ---- evidence that enough servers answered
 
@@ -77,9 +77,9 @@ pub data Carried (w : World) (e : Entry) : Type 0 where
 pub record Grew (w : World) (s : ℕ) (a b : Server) : Type 0 where
   pub view : a .view .0 ≤ b .view .0
   pub entry : a .entry ≼ b .entry
-  pub lost : (t : ℕ) → t ≤ a .view .0 → holds (a .keys) t ≡ false → lying b t ≡ false → holds (b .keys) t ≡ false
+  pub lost : (t : ℕ) → t ≤ a .view .0 → holds (a .keys .0) t ≡ false → lying b t ≡ false → holds (b .keys .0) t ≡ false
   pub fair : (t : ℕ) → lying b t ≡ false → lying a t ≡ false
-  pub keys : (t : ℕ) → holds (b .keys) t ≡ true → (holds (a .keys) t ≡ true) ⊎ Given w t s
+  pub keys : (t : ℕ) → holds (b .keys .0) t ≡ true → (holds (a .keys .0) t ≡ true) ⊎ Given w t s
   pub joined : Joined w a b
   pub source : (b .entry ≡ a .entry) ⊎ Carried w (b .entry)
 
@@ -90,7 +90,7 @@ pub record Honest (w : World) (m : Message) (b : Server) : Type 0 where
   pub home : m .view .0 ≡ b .view .0
   pub current : m .entry ≡ b .entry
   pub write : sent w (m .request .0) .kind ≡ WRITE → sent w (m .request .0) .entry ≼ m .entry
-  pub ended : sent w (m .request .0) .kind ≡ END → holds (b .keys) (m .view .0) ≡ false
+  pub ended : sent w (m .request .0) .kind ≡ END → holds (b .keys .0) (m .view .0) ≡ false
 
 -- the request of an answer
 pub record Asked (w : World) (r : ℕ) : Type 0 where
@@ -105,7 +105,7 @@ pub data Shows (w : World) (e own : Entry) : Type 0 where
   its : e ≡ own → Shows w e own
 
 pub record Said (w v : World) (m : Message) : Type 0 where
-  pub held : holds (server w (m .sender) .keys) (m .view .0) ≡ true
+  pub held : holds (server w (m .sender) .keys .0) (m .view .0) ≡ true
   pub asked : Asked w (m .request .0)
   pub shows : Shows w (m .entry) (server v (m .sender) .entry)
   pub honest : lying (server v (m .sender)) (m .view .0) ≡ false → Honest w m (server v (m .sender))

@@ -26,15 +26,15 @@ length-listTo g (suc n) = ap suc (length-listTo (λ i. g (suc i)) n)
 
 -- a server of a fresh world is a member of view 1, or nobody
 pub data First (v : View) (s : ℕ) (a : Server) : Type 0 where
-  member-of : holds (v .members) s ≡ true → a ≡ record { view = record { 0 = 1 }; faulty = false; keys = 1; entry = empty } → First v s a
+  member-of : holds (v .members .0) s ≡ true → a ≡ record { view = record { 0 = 1 }; faulty = false; keys = record { 0 = 1 }; entry = empty } → First v s a
   outside : a ≡ noServer → First v s a
 
 pub first : (v : View) (s : ℕ) → First v s (server (freshWorld v) s)
 unfolding server freshWorld nth
 first v zero = outside refl
-first v (suc k) = go (getD-listTo (freshServer (v .members)) servers k noServer) (by-bool (holds (v .members) (suc k)))
+first v (suc k) = go (getD-listTo (freshServer (v .members .0)) servers k noServer) (by-bool (holds (v .members .0) (suc k)))
   where
-    go : {a : Server} → (a ≡ freshServer (v .members) (suc k)) ⊎ (a ≡ noServer) → (holds (v .members) (suc k) ≡ true) ⊎ (holds (v .members) (suc k) ≡ false) → First v (suc k) a
+    go : {a : Server} → (a ≡ freshServer (v .members .0) (suc k)) ⊎ (a ≡ noServer) → (holds (v .members .0) (suc k) ≡ true) ⊎ (holds (v .members .0) (suc k) ≡ false) → First v (suc k) a
     go (inl e) (inl h) = member-of h (e ∙ rw h refl)
     go (inl e) (inr h) = outside (e ∙ rw h refl)
     go (inr e) h = outside e
@@ -53,7 +53,7 @@ clients-count v = length-replicate clients noClient
 
 pub servers-count : (v : View) → length (freshWorld v .serverList) ≡ servers
 unfolding freshWorld
-servers-count v = length-listTo (freshServer (v .members)) servers
+servers-count v = length-listTo (freshServer (v .members .0)) servers
 
 pub fresh-newest : (v : View) → newest (freshWorld v) ≡ 1
 unfolding freshWorld

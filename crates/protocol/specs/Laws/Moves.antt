@@ -11,17 +11,17 @@ use lib.ListN.{length}
 use lib.Dec.{eqb}
 use borrow.Author.Tests.{ltb-true, eqb-true, eqb-false, not-true}
 use Rattle.protocol.specs.Types.{Entry, Server, Message, Shown}
-use Rattle.protocol.specs.Tools.{if, within, holds, bitOf, done, guard, then, passed}
-use Rattle.protocol.specs.Sizes.{servers, messages}
+use Rattle.protocol.specs.Tools.{if, within, holds, bitOf, done, guard, passed}
+use Rattle.protocol.specs.Sizes.{messages}
 use Rattle.protocol.specs.Entries.{empty}
 use Rattle.protocol.specs.Servers.{READ, WRITE, END, START, ANSWER, isRequest, Reply, answering, keeping, withoutKey, joining, gathering, read, write, end, start, serve, mayAnswer}
-use Rattle.protocol.specs.Clients.{number}
 use Rattle.protocol.specs.Worlds.{World, view, server, client, message, newest, member, present, room, withServer, send}
 use Rattle.protocol.specs.Steps.{After, moved, answer, answers, deliver, fault, source?, lie}
 use Rattle.protocol.specs.Laws.Tests.{and-left, and-right, and-both, or-cases, by-test, clash, within-true, went}
 use Rattle.protocol.specs.Laws.Bits.{holds-bitOf, holds-or, holds-none}
 use Rattle.protocol.specs.Laws.Entries.{_≼_, ≼-refl, larger-left, larger-right, larger-one}
 use Rattle.protocol.specs.Laws.Worlds.{content, sent, sent-send, message-new, server-same, server-other, length-replace}
+use Rattle.protocol.specs.Laws.Kinds.{IsServer}
 use Rattle.protocol.specs.Laws.Change.{Sent, stay, join, Given, Carried, written, begun, Grew, Honest, Asked, Shows, nothing, old, its, Said, Acted, same, New, Posted, none as unsent, one, Change, Moved}
 use Rattle.protocol.specs.Laws.Sound.{Mail, Sound, mail-same, sized-same, sound-send, asked-on}
 
@@ -78,11 +78,6 @@ grew-all {w} v {s} {b} e f g x = go (ℕ-discrete x s)
     go (yes q) = rw q (rw e g)
     go (no q) = rw (f x q) (grew-refl _)
 
--- a server's number
-pub record IsServer (s : ℕ) : Type 0 where
-  pub low : 1 ≤ s
-  pub high : s ≤ servers
-
 -- server s of w is then b
 module _ {w : World} (h : Sound w) {s : ℕ} (r : IsServer s) {b : Server} (g : Grew w s (server w s) b) where
   pub silent-sound : Sound (withServer w s b)
@@ -125,11 +120,11 @@ module _ {w : World} (h : Sound w) {s : ℕ} (r : IsServer s) {b : Server} (g : 
     unfolding withServer sent message
     posting = post w (withServer w s b) (answer s n x) (h .mail) l refl refl (λ i. refl)
 
-    said : holds (server w s .keys) (x .view .0) ≡ true → Honest w (content (answer s n x)) b → x .entry ≡ b .entry → Said w (send (withServer w s b) (answer s n x)) (content (answer s n x))
+    said : holds (server w s .keys .0) (x .view .0) ≡ true → Honest w (content (answer s n x)) b → x .entry ≡ b .entry → Said w (send (withServer w s b) (answer s n x)) (content (answer s n x))
     unfolding content
     said k o e = record { held = k; asked = q; shows = its (rw answer-then e); honest = λ _. rw answer-then o }
 
-    pub answer-moves : holds (server w s .keys) (x .view .0) ≡ true → Honest w (content (answer s n x)) b → x .entry ≡ b .entry → (kind : ℕ) → Moved w (send (withServer w s b) (answer s n x)) 0 0 kind
+    pub answer-moves : holds (server w s .keys .0) (x .view .0) ≡ true → Honest w (content (answer s n x)) b → x .entry ≡ b .entry → (kind : ℕ) → Moved w (send (withServer w s b) (answer s n x)) 0 0 kind
     unfolding send withServer view client content
     answer-moves k o e kind =
         record {
@@ -146,9 +141,9 @@ module _ {w : World} (h : Sound w) {s : ℕ} (r : IsServer s) {b : Server} (g : 
 
 -- the ways in which a server serves the message m
 pub data Serving (a : Server) (m : Message) (member : Bool) (r : Reply) : Type 0 where
-  reads : m .kind ≡ READ → holds (a .keys) (a .view .0) ≡ true → r ≡ answering a a → Serving a m member r
-  writes : m .kind ≡ WRITE → holds (a .keys) (a .view .0) ≡ true → r ≡ answering (keeping a (m .entry)) (keeping a (m .entry)) → Serving a m member r
-  ends : m .kind ≡ END → a .faulty ≡ false → holds (a .keys) (a .view .0) ≡ true → r ≡ answering a (withoutKey a) → Serving a m member r
+  reads : m .kind ≡ READ → holds (a .keys .0) (a .view .0) ≡ true → r ≡ answering a a → Serving a m member r
+  writes : m .kind ≡ WRITE → holds (a .keys .0) (a .view .0) ≡ true → r ≡ answering (keeping a (m .entry)) (keeping a (m .entry)) → Serving a m member r
+  ends : m .kind ≡ END → a .faulty ≡ false → holds (a .keys .0) (a .view .0) ≡ true → r ≡ answering a (withoutKey a) → Serving a m member r
   joins : m .kind ≡ START → member ≡ true → a .view .0 < m .view .0 → a .faulty ≡ false → r ≡ record { server = joining a m; answer = none } → Serving a m member r
   gathers : m .kind ≡ START → member ≡ true → a .faulty ≡ true → r ≡ record { server = gathering a m; answer = none } → Serving a m member r
 
@@ -161,7 +156,7 @@ started a m member r k e =
     go (a .faulty) refl (and-left member _ p) (ltb-true _ _ (and-right member _ p)) e1
   where
     go : (f : Bool) → a .faulty ≡ f → member ≡ true → a .view .0 < m .view .0
-        → if f (guard (not (holds (a .keys) (m .view .0))) 7 (done (record { server = gathering a m; answer = none }))) (done (record { server = joining a m; answer = none })) ≡ done r
+        → if f (guard (not (holds (a .keys .0) (m .view .0))) 7 (done (record { server = gathering a m; answer = none }))) (done (record { server = joining a m; answer = none })) ≡ done r
         → Serving a m member r
     go true f i l e = let (p, e1) = passed _ _ _ _ e in gathers k i f (is-done e1)
     go false f i l e = joins k i l f (is-done e)
@@ -170,7 +165,7 @@ pub serving : (a : Server) (m : Message) (member : Bool) (r : Reply) → serve a
 unfolding serve
 serving a m member r e = let (p, e1) = passed _ _ _ _ e in first p (eqb (m .kind) START) refl e1
   where
-    third : within READ START (m .kind) ≡ true → eqb (m .kind) START ≡ false → a .faulty ≡ false → holds (a .keys) (a .view .0) ≡ true → (b c : Bool) → eqb (m .kind) READ ≡ b → eqb (m .kind) WRITE ≡ c
+    third : within READ START (m .kind) ≡ true → eqb (m .kind) START ≡ false → a .faulty ≡ false → holds (a .keys .0) (a .view .0) ≡ true → (b c : Bool) → eqb (m .kind) READ ≡ b → eqb (m .kind) WRITE ≡ c
         → if b (read a m) (if c (write a m) (end a m)) ≡ done r → Serving a m member r
     third p q f h true c x y e = reads (eqb-true _ _ x) h (is-done e)
     third p q f h false true x y e = writes (eqb-true _ _ y) h (is-done e)
@@ -183,7 +178,7 @@ serving a m member r e = let (p, e1) = passed _ _ _ _ e in first p (eqb (m .kind
         only k l u a b c = omega arith
 
     first : within READ START (m .kind) ≡ true → (b : Bool) → eqb (m .kind) START ≡ b
-        → if b (start a m member) (guard (not (a .faulty)) 6 (guard (holds (a .keys) (a .view .0)) 7 (if (eqb (m .kind) READ) (read a m) (if (eqb (m .kind) WRITE) (write a m) (end a m))))) ≡ done r
+        → if b (start a m member) (guard (not (a .faulty)) 6 (guard (holds (a .keys .0) (a .view .0)) 7 (if (eqb (m .kind) READ) (read a m) (if (eqb (m .kind) WRITE) (write a m) (end a m))))) ≡ done r
         → Serving a m member r
     first p true x e = started a m member r (eqb-true _ _ x) e
     first p false x e =
@@ -272,7 +267,7 @@ module _ {w : World} {s n : ℕ} (a : Server) where
           view = le-refl _;
           entry = ≼-refl _;
           lost = λ t l h g. rw f at g;
-          fair = λ t g. and-false (a .faulty) _ (or-left-false (holds (a .keys) t) _ (rw (f, holds-or) at g));
+          fair = λ t g. and-false (a .faulty) _ (or-left-false (holds (a .keys .0) t) _ (rw (f, holds-or) at g));
           keys = λ t h. go t (or-cases _ _ (rw holds-or at h));
           joined = stay refl;
           source = inl refl;
@@ -282,7 +277,7 @@ module _ {w : World} {s n : ℕ} (a : Server) where
         or-left-false true y e = e
         or-left-false false y e = refl
 
-        go : (t : ℕ) → (holds (a .keys) t ≡ true) ⊎ (holds (bitOf (sent w n .view .0)) t ≡ true) → (holds (a .keys) t ≡ true) ⊎ Given w t s
+        go : (t : ℕ) → (holds (a .keys .0) t ≡ true) ⊎ (holds (bitOf (sent w n .view .0)) t ≡ true) → (holds (a .keys .0) t ≡ true) ⊎ Given w t s
         go t (inl h) = inl h
         go t (inr h) = inr (given t h)
 
@@ -296,7 +291,7 @@ fault-lawful {w} h s r a e kind =
 
 -- an answer that is sent where a number is left
 answered : {w : World} (h : Sound w) {s : ℕ} (r : IsServer s) {b : Server} → Grew w s (server w s) b → (n : ℕ) (x : Shown) → Asked w n
-    → holds (server w s .keys) (x .view .0) ≡ true → Honest w (content (answer s n x)) b → x .entry ≡ b .entry
+    → holds (server w s .keys .0) (x .view .0) ≡ true → Honest w (content (answer s n x)) b → x .entry ≡ b .entry
     → (a : After) → guard (room w) 10 (moved (send (withServer w s b) (answer s n x))) ≡ done a → (kind : ℕ) → Lawful w (a .world) (a .completed) 0 kind
 answered {w} h r g n x q k o c a e kind =
     let (p, e1) = passed _ _ _ _ e in
@@ -372,7 +367,7 @@ lie-lawful {w} h s t n source a e kind =
     asked : present w n ≡ true → isRequest (message w n .kind) ≡ true → Asked w n
     asked p k = let (l, u) = present-is w n p in record { low = l; below = u; is = k }
 
-    go : present w n ≡ true → (isRequest (message w n .kind) && source? w source) ≡ true → server w s .faulty ≡ true → holds (server w s .keys) t ≡ true → w .used < messages
+    go : present w n ≡ true → (isRequest (message w n .kind) && source? w source) ≡ true → server w s .faulty ≡ true → holds (server w s .keys .0) t ≡ true → w .used < messages
         → record { world = send w m; completed = 0 } ≡ a → Lawful w (a .world) (a .completed) 0 kind
     go p k f y l e =
         let q = asked p (and-left _ _ k) in

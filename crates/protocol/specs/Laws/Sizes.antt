@@ -12,15 +12,15 @@ use Rattle.protocol.specs.Sizes.{quorum, quorumSize, size, sized, readSi
 use Rattle.protocol.specs.Laws.Tests.{and-right}
 
 -- a size of document 01's list: n, f
-record Pair : Type 0 where
-  n : ℕ
-  f : ℕ
+pub record Pair : Type 0 where
+  pub n : ℕ
+  pub f : ℕ
 
-abbrev at : ℕ → ℕ → Pair
+abbrev pub at : ℕ → ℕ → Pair
 at n f = record { n = n; f = f }
 
 -- "(1,0) 1; (2,0) 2; (3,0) 2; (4,1) 3; (5,1) 4; (6,1) 4; (7,2) 5; (10,3) 7; (32,10) 22; refused (0,0), (3,1), (32,11)"
-marked : map (λ (p : Pair). quorumSize (p .n) (p .f)) (at 1 0 ∷ at 2 0 ∷ at 3 0 ∷ at 4 1 ∷ at 5 1 ∷ at 6 1 ∷ at 7 2 ∷ at 10 3 ∷ at 32 10 ∷ at 0 0 ∷ at 3 1 ∷ at 32 11 ∷ [])
+pub marked : map (λ (p : Pair). quorumSize (p .n) (p .f)) (at 1 0 ∷ at 2 0 ∷ at 3 0 ∷ at 4 1 ∷ at 5 1 ∷ at 6 1 ∷ at 7 2 ∷ at 10 3 ∷ at 32 10 ∷ at 0 0 ∷ at 3 1 ∷ at 32 11 ∷ [])
     ≡ (done 1 ∷ done 2 ∷ done 2 ∷ done 3 ∷ done 4 ∷ done 4 ∷ done 5 ∷ done 7 ∷ done 22 ∷ refused 8 ∷ refused 8 ∷ refused 8 ∷ [])
 unfolding quorumSize quorum guard
 marked = refl
@@ -42,5 +42,5 @@ pub record Sizes (v : View) : Type 0 where
 pub sizes : (v : View) → sized v ≡ true → Sizes v
 unfolding sized readSize writeSize quorum
 sizes v e =
-    let r : 3 * v .f + 1 ≤ size v = leb-true _ _ (and-right (leb 1 (size v)) _ (and-right (ltb (v .members) 4294967296) _ e)) in
+    let r : 3 * v .f + 1 ≤ size v = leb-true _ _ (and-right (leb 1 (size v)) _ (and-right (ltb (v .members .0) 4294967296) _ e)) in
     record { meet = omega arith; twice = omega arith; readOne = omega arith; writeOne = omega arith; readMost = omega arith; writeMost = omega arith }

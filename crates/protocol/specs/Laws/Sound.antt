@@ -16,7 +16,7 @@ use Rattle.protocol.specs.Tools.{if}
 use Rattle.protocol.specs.Sizes.{clients, servers, views, messages, sized}
 use Rattle.protocol.specs.Entries.{chosen}
 use Rattle.protocol.specs.Servers.{READ, END, ANSWER, isRequest}
-use Rattle.protocol.specs.Clients.{number, isEnding}
+use Rattle.protocol.specs.Clients.{isEnding}
 use Rattle.protocol.specs.Worlds.{World, view, message, newest, withMessage, send}
 use Rattle.protocol.specs.Chains.{follow, chain, tagged, heard, enough, shown}
 use Rattle.protocol.specs.Steps.{link, takenWith}

@@ -1,14 +1,14 @@
 -- Tests that keep what they tell. Assumes nothing.
-use Prim.Native.Nat.{ℕ, zero, suc, _+_, _≤_, _<_}
-use native.Mathlib.Nat.{eq-or-lt-of-le}
+use Prim.Native.Nat.{ℕ, zero, suc, _≤_, _<_}
+use native.Mathlib.Nat.{eq-or-lt-of-le, le-refl}
 use native.Mathlib.Omega.{arith}
 use mathlib.Core.Bool.{Bool, true, false, _&&_, _||_, true≢false}
 use mathlib.Core.Path.{_≡_, refl, sym, _∙_}
 use mathlib.Core.Logic.{_⊎_, inl, inr}
 use mathlib.Core.List.{List, [], _∷_}
 use lib.Dec.{leb}
-use borrow.Author.Tests.{leb-true}
-use Rattle.protocol.specs.Tools.{within, allTo, any, Result, refused, done, then}
+use borrow.Author.Tests.{leb-true, le-leb}
+use Rattle.protocol.specs.Tools.{within, bit, countTo, allTo, any, Result, refused, done, then}
 
 pub and-left : (x y : Bool) → (x && y) ≡ true → x ≡ true
 and-left true y e = refl
@@ -50,6 +50,9 @@ last-or i n h = go (eq-or-lt-of-le h)
 pub within-true : (low high n : ℕ) → within low high n ≡ true → (low ≤ n) × (n ≤ high)
 within-true low high n e = (leb-true _ _ (and-left _ _ e), leb-true _ _ (and-right (leb low n) _ e))
 
+pub is-within : (low high n : ℕ) → low ≤ n → n ≤ high → within low high n ≡ true
+is-within low high n l h = and-both _ _ (le-leb _ _ l) (le-leb _ _ h)
+
 pub allTo-at : (p : ℕ → Bool) (n i : ℕ) → allTo p n ≡ true → 1 ≤ i → i ≤ n → p i ≡ true
 unfolding allTo
 allTo-at p zero i e l h = absurd (omega arith)
@@ -58,6 +61,20 @@ allTo-at p (suc n) i e l h = go (last-or i n h) (allTo-at p n i (and-left (allTo
     go : (i ≡ suc n) ⊎ (i ≤ n) → (i ≤ n → p i ≡ true) → p i ≡ true
     go (inl q) ih = rw q (and-right (allTo p n) _ e)
     go (inr q) ih = ih q
+
+pub all-to : (p : ℕ → Bool) (n : ℕ) → ((i : ℕ) → 1 ≤ i → i ≤ n → p i ≡ true) → allTo p n ≡ true
+unfolding allTo
+all-to p zero f = refl
+all-to p (suc n) f = and-both _ _ (all-to p n (λ i l h. f i l (omega arith))) (f (suc n) (omega arith) (le-refl _))
+
+bit-le : (b : Bool) → bit b ≤ 1
+bit-le true = omega arith
+bit-le false = omega arith
+
+pub count-le : (p : ℕ → Bool) (n : ℕ) → countTo p n ≤ n
+unfolding countTo
+count-le p zero = omega arith
+count-le p (suc n) = omega (arith, count-le p n, bit-le (p (suc n)))
 
 -- a member of a list of numbers that passes a test
 pub data Has (P : ℕ → Type 0) : List ℕ → Type 0 where

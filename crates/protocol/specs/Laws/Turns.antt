@@ -6,29 +6,24 @@ use native.Mathlib.Omega.{arith}
 use mathlib.Core.Bool.{Bool, true, false, not, _&&_, _||_}
 use mathlib.Core.Path.{_≡_, refl, sym, ap, _∙_, subst}
 use mathlib.Core.Logic.{_⊎_, inl, inr, _≢_}
-use mathlib.Core.List.{List}
 use lib.ListN.{length, List·getD-eq-default}
 use lib.Dec.{eqb}
 use borrow.Author.Tests.{ltb-true, eqb-true}
 use Rattle.protocol.specs.Types.{ViewNumber, Entry, View, Phase, Idle, Reading, Writing, Client, Administrator, Ending, Settled, EndSent, Message, Step}
-use Rattle.protocol.specs.Tools.{if, within, nth, Result, refused, done, guard, passed}
-use Rattle.protocol.specs.Sizes.{clients, servers, views, messages, sized, readSize, writeSize}
+use Rattle.protocol.specs.Tools.{if, nth, Result, refused, done, guard, passed}
+use Rattle.protocol.specs.Sizes.{clients, views, messages, sized, readSize, writeSize}
 use Rattle.protocol.specs.Entries.{entry, empty, chosen}
 use Rattle.protocol.specs.Servers.{READ, WRITE, END, START, ANSWER}
 use Rattle.protocol.specs.Clients.{WRITES, READS, number, isIdle, requestOf, begin, closeSize, toWrite, Close, closeBy, close, isEnding, endOf, call, advance}
 use Rattle.protocol.specs.Worlds.{World, noClient, view, server, client, message, newest, present, room, withClient, withView, withMessage, withAdministrator, send, nextNumber}
 use Rattle.protocol.specs.Chains.{enough, shown}
-use Rattle.protocol.specs.Steps.{After, moved, request, begins, link, open?, takenWith, closes, starts, takes, take, newView, deliver, fault, lie, fieldsFit, CLIENT, SERVER, uses, field, perform, step}
-use Rattle.protocol.specs.Laws.Tests.{and-left, and-right, or-cases, clash, within-true, went}
+use Rattle.protocol.specs.Steps.{After, moved, request, begins, link, open?, takenWith, closes, starts, takes, take, newView, fieldsFit, writeStep, readStep, deliverStep, takeStep, faultStep, falseStep, viewStep, uses, viewAsked, step}
+use Rattle.protocol.specs.Laws.Tests.{and-left, and-right, or-cases, clash, went}
 use Rattle.protocol.specs.Laws.Worlds.{content, sent, sent-link, client-same, client-other, view-same, view-other, length-replace}
-use Rattle.protocol.specs.Laws.Change.{Votes, To, Chosen, Started, Closed, Kept, Acted, same, began, wrote, ended, New, none as unsent}
+use Rattle.protocol.specs.Laws.Change.{Votes, To, Chosen, Started, Closed, Kept, Acted, same, began, wrote, ended, none as unsent}
 use Rattle.protocol.specs.Laws.Sound.{Sized, Sound, mail-same, mail-link, sized-same, sound-send, Taking, close-votes, close-chosen, link-count}
-use Rattle.protocol.specs.Laws.Moves.{done-is, apart, is-done, grew-refl, Post, post, posted, quiet, idle-acted, room-left, present-is, Lawful, IsServer, fault-lawful, deliver-lawful, lie-lawful}
-
--- a client's number
-pub record IsClient (c : ℕ) : Type 0 where
-  pub low : 1 ≤ c
-  pub high : c ≤ clients
+use Rattle.protocol.specs.Laws.Kinds.{IsClient, client-of, server-of, by-kind}
+use Rattle.protocol.specs.Laws.Moves.{done-is, apart, is-done, grew-refl, Post, post, posted, quiet, idle-acted, room-left, present-is, Lawful, fault-lawful, deliver-lawful, lie-lawful}
 
 idle-is : (p : Phase) → isIdle p ≡ true → p ≡ Idle
 idle-is Idle e = refl
@@ -497,55 +492,20 @@ newView-lawful {w} h v a e kind =
 abbrev pub starter : Step → ℕ
 starter st = if (eqb (st .kind) WRITES || eqb (st .kind) READS) (st .who) 0
 
--- the numbers that check 3 lets through
-who-fits : (st : Step) → fieldsFit st ≡ true → field (uses (st .kind) CLIENT || uses (st .kind) SERVER) 1 (if (uses (st .kind) CLIENT) clients servers) (st .who) ≡ true
-unfolding fieldsFit
-who-fits st e = and-left _ _ (and-right (within 1 7 (st .kind)) _ e)
-
-who-client : (st : Step) → fieldsFit st ≡ true → uses (st .kind) CLIENT ≡ true → IsClient (st .who)
-who-client st e u = let (l, k) = within-true 1 clients (st .who) (rw u at (who-fits st e)) in record { low = l; high = k }
-
-who-server : (st : Step) → fieldsFit st ≡ true → uses (st .kind) CLIENT ≡ false → uses (st .kind) SERVER ≡ true → IsServer (st .who)
-who-server st e u v = let (l, k) = within-true 1 servers (st .who) (rw (u, v) at (who-fits st e)) in record { low = l; high = k }
-
--- by the table
-module _ (st : Step) (k : ℕ) (e : fieldsFit st ≡ true) (q : st .kind ≡ k) where
-  pub client-of : uses k CLIENT ≡ true → IsClient (st .who)
-  client-of u = who-client st e (rw q u)
-
-  pub server-of : uses k CLIENT ≡ false → uses k SERVER ≡ true → IsServer (st .who)
-  server-of u v = who-server st e (rw q u) (rw q v)
-
 -- Every accepted step is lawful.
 pub step-lawful : {w : World} → Sound w → (st : Step) (a : After) → step w st ≡ done a → Lawful w (a .world) (a .completed) (starter st) (st .kind)
-unfolding step perform uses
+unfolding step uses
 step-lawful {w} h st a e =
     let (f, e1) = passed _ _ _ _ e in
-    go f (eqb (st .kind) 1) (eqb (st .kind) 2) (eqb (st .kind) 3) (eqb (st .kind) 4) (eqb (st .kind) 5) (eqb (st .kind) 6) refl refl refl refl refl refl e1
-  where
-    as-step : (x : ℕ) → starter st ≡ x → Lawful w (a .world) (a .completed) x (st .kind) → Lawful w (a .world) (a .completed) (starter st) (st .kind)
-    as-step x q l = rw q l
-
-    none : eqb (st .kind) 1 ≡ false → eqb (st .kind) 2 ≡ false → starter st ≡ 0
-    none p q = rw (p, q) refl
-
-    go : fieldsFit st ≡ true → (b1 b2 b3 b4 b5 b6 : Bool) → eqb (st .kind) 1 ≡ b1 → eqb (st .kind) 2 ≡ b2 → eqb (st .kind) 3 ≡ b3 → eqb (st .kind) 4 ≡ b4 → eqb (st .kind) 5 ≡ b5 → eqb (st .kind) 6 ≡ b6
-        → if b1 (begins w (st .who) WRITES (st .value)) (if b2 (begins w (st .who) READS 0) (if b3 (deliver w (st .who) (st .message .0)) (if b4 (take w (st .message .0))
-        (if b5 (fault w (st .who)) (if b6 (lie w (st .who) (st .view .0) (st .message .0) (st .source .0)) (newView w (record { members = st .value; f = st .f }))))))) ≡ done a
-        → Lawful w (a .world) (a .completed) (starter st) (st .kind)
-    go f true b2 b3 b4 b5 b6 e1 e2 e3 e4 e5 e6 e =
-        as-step (st .who) (rw e1 refl) (rw (eqb-true (st .kind) 1 e1) (begins-lawful h (client-of st 1 f (eqb-true _ _ e1) refl) WRITES (st .value) a e))
-    go f false true b3 b4 b5 b6 e1 e2 e3 e4 e5 e6 e =
-        as-step (st .who) (rw (e1, e2) refl) (rw (eqb-true (st .kind) 2 e2) (begins-lawful h (client-of st 2 f (eqb-true _ _ e2) refl) READS 0 a e))
-    go f false false true b4 b5 b6 e1 e2 e3 e4 e5 e6 e =
-        as-step 0 (none e1 e2) (deliver-lawful h (st .who) (st .message .0) (server-of st 3 f (eqb-true _ _ e3) refl refl) a e (st .kind))
-    go f false false false true b5 b6 e1 e2 e3 e4 e5 e6 e = as-step 0 (none e1 e2) (take-lawful h (st .message .0) a e (st .kind))
-    go f false false false false true b6 e1 e2 e3 e4 e5 e6 e =
-        as-step 0 (none e1 e2) (fault-lawful h (st .who) (server-of st 5 f (eqb-true _ _ e5) refl refl) a e (st .kind))
-    go f false false false false false true e1 e2 e3 e4 e5 e6 e =
-        as-step 0 (none e1 e2) (lie-lawful h (st .who) (st .view .0) (st .message .0) (st .source .0) a e (st .kind))
-    go f false false false false false false e1 e2 e3 e4 e5 e6 e =
-        as-step 0 (none e1 e2) (newView-lawful h (record { members = st .value; f = st .f }) a e (st .kind))
+    by-kind w st f (λ x. x ≡ done a → Lawful w (a .world) (a .completed) (starter st) (st .kind))
+    (λ q e. rw q (begins-lawful h (client-of st writeStep f q refl) WRITES (st .value) a e))
+    (λ q e. rw q (begins-lawful h (client-of st readStep f q refl) READS 0 a e))
+    (λ q e. rw q (deliver-lawful h (st .who) (st .message .0) (server-of st deliverStep f q refl refl) a e deliverStep))
+    (λ q e. rw q (take-lawful h (st .message .0) a e takeStep))
+    (λ q e. rw q (fault-lawful h (st .who) (server-of st faultStep f q refl refl) a e faultStep))
+    (λ q e. rw q (lie-lawful h (st .who) (st .view .0) (st .message .0) (st .source .0) a e falseStep))
+    (λ q e. rw q (newView-lawful h (viewAsked st) a e viewStep))
+    e1
 
 -- a step that begins an operation names its client
 pub step-starter : (w : World) (st : Step) (a : After) → step w st ≡ done a → (eqb (st .kind) WRITES || eqb (st .kind) READS) ≡ true → 1 ≤ st .who

@@ -69,9 +69,7 @@ pub sent-link : (w : World) (k i : ℕ) → sent (link w k) i ≡ sent w i
 unfolding link sent content
 sent-link w k i =
     let r : ℕ = message w k .request .0 in
-    let a : Message = record { kind = message w k .kind; sender = message w k .sender; view = message w k .view; taken = true; request = message w k .request; next = message w r .next; entry = message w k .entry } in
-    let q : Message = record { kind = message w r .kind; sender = message w r .sender; view = message w r .view; taken = message w r .taken; request = message w r .request; next = number k; entry = message w r .entry } in
-    sent-with (withMessage w k a) r q (sym (sent-with w k a refl r)) i ∙ sent-with w k a refl i
+    sent-with (withMessage w k _) r _ (sym (sent-with w k _ refl r)) i ∙ sent-with w k _ refl i
 
 pub sent-send : (w : World) (m : Message) (i : ℕ) → i ≤ w .used → sent (send w m) i ≡ sent w i
 unfolding sent message send

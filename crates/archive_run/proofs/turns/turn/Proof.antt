@@ -1,5 +1,5 @@
 use mathlib.Core.Path.{refl}
-use Rattle.consistency.specs.Steps.{stepOn}
+use Rattle.image.specs.Steps.{stepOn}
 use Rattle.journal.specs.Replays.{advanced}
 use Rattle.archive_run.specs.Turns.{put-none, turn-stopped, turn-went, step-short, does-legible}
 use borrow.Author.Needs.{needs}

@@ -1,7 +1,7 @@
 use mathlib.Core.Path.{sym, _∙_}
 use borrow.Author.Needs.{needs}
 use borrow.Author.Tests.{not-true, not-false}
-use Rattle.values.specs.Records.{pass}
+use Rattle.protocol.specs.Tools.{pass}
 use Rattle.checked.specs.Ranges.{clientInRange}
 use Rattle.checked.proofs.ranges.client_in_range.Statement.{statement}
 use Rattle.checked.proofs.ranges.client_in_range.Tie as tie

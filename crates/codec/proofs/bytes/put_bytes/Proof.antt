@@ -57,15 +57,4 @@ returns c =
 pub put-bytes-spec : {M : Type 1} → statement M
 put-bytes-spec =
     tie.close
-    (tie.spec
-    Inv-loop
-    μ-loop
-    loop-holds
-    shared-slice-read-image
-    add-image
-    slice-write-image
-    add-i
-    loop-less
-    loop-again
-    same-length
-    returns)
+    (tie.spec Inv-loop μ-loop loop-holds shared-slice-read-image add-image slice-write-image add-i loop-less loop-again same-length returns)

@@ -31,10 +31,4 @@ returns c =
 pub load-administrator-spec : {M : Type 1} → statement M
 load-administrator-spec =
     tie.close
-    (tie.spec
-    add-read-administrator
-    sub-read-administrator
-    part-read-administrator-start
-    part-read-administrator-end
-    read-administrator-requires
-    returns)
+    (tie.spec add-read-administrator sub-read-administrator part-read-administrator-start part-read-administrator-end read-administrator-requires returns)

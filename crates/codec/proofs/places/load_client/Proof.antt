@@ -40,13 +40,4 @@ returns c =
 pub load-client-spec : {M : Type 1} → statement M
 load-client-spec =
     tie.close
-    (tie.spec
-    sub-at
-    mul-at
-    add-at
-    add-read-client
-    sub-read-client
-    part-read-client-start
-    part-read-client-end
-    read-client-requires
-    returns)
+    (tie.spec sub-at mul-at add-at add-read-client sub-read-client part-read-client-start part-read-client-end read-client-requires returns)

@@ -40,13 +40,4 @@ returns c =
 pub load-message-spec : {M : Type 1} → statement M
 load-message-spec =
     tie.close
-    (tie.spec
-    cast-at
-    mul-at
-    add-at
-    add-read-message
-    sub-read-message
-    part-read-message-start
-    part-read-message-end
-    read-message-requires
-    returns)
+    (tie.spec cast-at mul-at add-at add-read-message sub-read-message part-read-message-start part-read-message-end read-message-requires returns)

@@ -43,14 +43,4 @@ returns c =
 pub load-server-spec : {M : Type 1} → statement M
 load-server-spec =
     tie.close
-    (tie.spec
-    cast-at
-    sub-at
-    mul-at
-    add-at
-    add-read-server
-    sub-read-server
-    part-read-server-start
-    part-read-server-end
-    read-server-requires
-    returns)
+    (tie.spec cast-at sub-at mul-at add-at add-read-server sub-read-server part-read-server-start part-read-server-end read-server-requires returns)

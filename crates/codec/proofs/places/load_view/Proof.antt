@@ -43,14 +43,4 @@ returns c =
 pub load-view-spec : {M : Type 1} → statement M
 load-view-spec =
     tie.close
-    (tie.spec
-    cast-at
-    sub-at
-    mul-at
-    add-at
-    add-read-view
-    sub-read-view
-    part-read-view-start
-    part-read-view-end
-    read-view-requires
-    returns)
+    (tie.spec cast-at sub-at mul-at add-at add-read-view sub-read-view part-read-view-start part-read-view-end read-view-requires returns)

@@ -1,7 +1,3 @@
-use native.Mathlib.Omega.{arith}
-use Rattle.codec.specs.Layout.{serverPlace}
-use Rattle.codec.specs.Lists.{put-put}
-use Rattle.codec.specs.Records.{serverHead, serverBytes, entryBytes}
 use Rattle.codec.specs.Places.{putServer}
 use borrow.Author.Needs.{needs}
 use Rattle.codec.proofs.places.store_server.Statement.{statement}
@@ -19,51 +15,16 @@ mul-at c = search needs
 add-at : tie.Need-add-at
 add-at c = search needs
 
-server-head-requires : tie.Need-server-head-requires
-server-head-requires c κs = search needs
-
-entry-bytes-requires : tie.Need-entry-bytes-requires
-entry-bytes-requires c κs = search needs
-
-slice-aggregate-put-bytes : tie.Need-slice-aggregate-put-bytes
-slice-aggregate-put-bytes c = search needs
-
-put-bytes-requires : tie.Need-put-bytes-requires
-put-bytes-requires c κs = search needs
-
-add-put-bytes : tie.Need-add-put-bytes
-add-put-bytes c = search needs
-
-slice-aggregate-put-bytes-2 : tie.Need-slice-aggregate-put-bytes-2
-slice-aggregate-put-bytes-2 c = search needs
-
-put-bytes-requires-2 : tie.Need-put-bytes-requires-2
-put-bytes-requires-2 c κs = search needs
+write-server-requires : tie.Need-write-server-requires
+write-server-requires c κs = search needs
 
 same-length : tie.Need-same-length
 same-length c = search needs
 
 returns : tie.Need-returns
-unfolding putServer serverBytes serverHead
-returns c =
-    let a = c .before .before .before .before .before .before .before .before .before .before .before .before .before .before .args in
-    rw (c .before .before .put-bytes2 .ensures, c .before .before .before .before .before .before .before .put-bytes .ensures, c .before .before .before .before .before .before .before .before .before .before .entry-bytes .ensures, c .before .before .before .before .before .before .before .before .before .before .before .before .server-head .ensures)
-    (put-put (a .image .now) (serverPlace (a .s .0)) (serverHead (a .v)) (entryBytes (a .v .entry)) (omega arith))
+unfolding putServer
+returns c = c .before .before .write-server .ensures
 
 pub store-server-spec : {M : Type 1} → statement M
 store-server-spec =
-    tie.close
-    (tie.spec
-    cast-at
-    sub-at
-    mul-at
-    add-at
-    server-head-requires
-    entry-bytes-requires
-    slice-aggregate-put-bytes
-    put-bytes-requires
-    add-put-bytes
-    slice-aggregate-put-bytes-2
-    put-bytes-requires-2
-    same-length
-    returns)
+    tie.close (tie.spec cast-at sub-at mul-at add-at write-server-requires same-length returns)

@@ -1,51 +1,31 @@
-use mathlib.Core.Path.{ap, _∙_}
-use Rattle.codec.specs.Layout.{viewPlace}
-use Rattle.codec.specs.Lists.{put}
 use Rattle.codec.specs.Places.{putView}
 use borrow.Author.Needs.{needs}
 use Rattle.codec.proofs.places.store_view.Statement.{statement}
 use Rattle.codec.proofs.places.store_view.Tie as tie
 
-view-bytes-requires : tie.Need-view-bytes-requires
-view-bytes-requires c κs = search needs
+cast-write-view : tie.Need-cast-write-view
+cast-write-view c = search needs
 
-cast-put-bytes : tie.Need-cast-put-bytes
-cast-put-bytes c = search needs
+sub-write-view : tie.Need-sub-write-view
+sub-write-view c = search needs
 
-sub-put-bytes : tie.Need-sub-put-bytes
-sub-put-bytes c = search needs
+mul-write-view : tie.Need-mul-write-view
+mul-write-view c = search needs
 
-mul-put-bytes : tie.Need-mul-put-bytes
-mul-put-bytes c = search needs
+add-write-view : tie.Need-add-write-view
+add-write-view c = search needs
 
-add-put-bytes : tie.Need-add-put-bytes
-add-put-bytes c = search needs
-
-slice-aggregate-put-bytes : tie.Need-slice-aggregate-put-bytes
-slice-aggregate-put-bytes c = search needs
-
-put-bytes-requires : tie.Need-put-bytes-requires
-put-bytes-requires c κs = search needs
+write-view-requires : tie.Need-write-view-requires
+write-view-requires c κs = search needs
 
 same-length : tie.Need-same-length
 same-length c = search needs
 
 returns : tie.Need-returns
 unfolding putView
-returns c =
-    let a = c .before .before .before .before .before .before .before .args in
-    c .before .before .put-bytes .ensures ∙ ap (put (a .image .now) (viewPlace (a .t .0))) (c .before .before .before .before .before .view-bytes .ensures)
+returns c = c .before .before .write-view .ensures
 
 pub store-view-spec : {M : Type 1} → statement M
 store-view-spec =
     tie.close
-    (tie.spec
-    view-bytes-requires
-    cast-put-bytes
-    sub-put-bytes
-    mul-put-bytes
-    add-put-bytes
-    slice-aggregate-put-bytes
-    put-bytes-requires
-    same-length
-    returns)
+    (tie.spec cast-write-view sub-write-view mul-write-view add-write-view write-view-requires same-length returns)

@@ -4,20 +4,17 @@ use borrow.Author.Needs.{needs}
 use Rattle.codec.proofs.records.read_client.Statement.{statement}
 use Rattle.codec.proofs.records.read_client.Tie as tie
 
-shared-slice-read-half2 : tie.Need-shared-slice-read-half2
-shared-slice-read-half2 c = search needs
-
-shared-slice-read-half2-2 : tie.Need-shared-slice-read-half2-2
-shared-slice-read-half2-2 c = search needs
-
-half2-requires : tie.Need-half2-requires
-half2-requires c κs = search needs
+get16-requires : tie.Need-get16-requires
+get16-requires c κs = search needs
 
 shared-slice-read-phase-of : tie.Need-shared-slice-read-phase-of
 shared-slice-read-phase-of c = search needs
 
 phase-of-requires : tie.Need-phase-of-requires
 phase-of-requires c κs = search needs
+
+add-read-entry : tie.Need-add-read-entry
+add-read-entry c = search needs
 
 sub-read-entry : tie.Need-sub-read-entry
 sub-read-entry c = search needs
@@ -31,25 +28,15 @@ part-read-entry-end c = search needs
 read-entry-requires : tie.Need-read-entry-requires
 read-entry-requires c κs = search needs
 
-shared-slice-read-t8 : tie.Need-shared-slice-read-t8
-shared-slice-read-t8 c = search needs
+shared-slice-read-t6 : tie.Need-shared-slice-read-t6
+shared-slice-read-t6 c = search needs
 
 returns : tie.Need-returns
 unfolding clientOf part
-returns c = rw (c .before .read-entry .ensures, c .before .before .before .phase-of .ensures, c .before .before .before .before .before .half2 .ensures)
+returns c = rw (c .before .read-entry .ensures, c .before .before .before .phase-of .ensures, c .before .before .before .before .before .get16 .ensures)
 
 pub read-client-spec : {M : Type 1} → statement M
 read-client-spec =
     tie.close
-    (tie.spec
-    shared-slice-read-half2
-    shared-slice-read-half2-2
-    half2-requires
-    shared-slice-read-phase-of
-    phase-of-requires
-    sub-read-entry
-    part-read-entry-start
-    part-read-entry-end
-    read-entry-requires
-    shared-slice-read-t8
-    returns)
+    (tie.spec get16-requires shared-slice-read-phase-of phase-of-requires add-read-entry sub-read-entry part-read-entry-start part-read-entry-end
+    read-entry-requires shared-slice-read-t6 returns)

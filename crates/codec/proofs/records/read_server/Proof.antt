@@ -4,20 +4,11 @@ use borrow.Author.Needs.{needs}
 use Rattle.codec.proofs.records.read_server.Statement.{statement}
 use Rattle.codec.proofs.records.read_server.Tie as tie
 
-shared-slice-read-word4 : tie.Need-shared-slice-read-word4
-shared-slice-read-word4 c = search needs
+get32-requires : tie.Need-get32-requires
+get32-requires c κs = search needs
 
-shared-slice-read-word4-2 : tie.Need-shared-slice-read-word4-2
-shared-slice-read-word4-2 c = search needs
-
-shared-slice-read-word4-3 : tie.Need-shared-slice-read-word4-3
-shared-slice-read-word4-3 c = search needs
-
-shared-slice-read-word4-4 : tie.Need-shared-slice-read-word4-4
-shared-slice-read-word4-4 c = search needs
-
-word4-requires : tie.Need-word4-requires
-word4-requires c κs = search needs
+add-read-entry : tie.Need-add-read-entry
+add-read-entry c = search needs
 
 sub-read-entry : tie.Need-sub-read-entry
 sub-read-entry c = search needs
@@ -34,26 +25,15 @@ read-entry-requires c κs = search needs
 shared-slice-read-faulty : tie.Need-shared-slice-read-faulty
 shared-slice-read-faulty c = search needs
 
-shared-slice-read-t8 : tie.Need-shared-slice-read-t8
-shared-slice-read-t8 c = search needs
+shared-slice-read-t11 : tie.Need-shared-slice-read-t11
+shared-slice-read-t11 c = search needs
 
 returns : tie.Need-returns
 unfolding serverOf part
-returns c = rw (c .before .before .read-entry .ensures, c .before .before .before .before .word4 .ensures)
+returns c = rw (c .before .before .read-entry .ensures, c .before .before .before .before .get32 .ensures)
 
 pub read-server-spec : {M : Type 1} → statement M
 read-server-spec =
     tie.close
-    (tie.spec
-    shared-slice-read-word4
-    shared-slice-read-word4-2
-    shared-slice-read-word4-3
-    shared-slice-read-word4-4
-    word4-requires
-    sub-read-entry
-    part-read-entry-start
-    part-read-entry-end
-    read-entry-requires
-    shared-slice-read-faulty
-    shared-slice-read-t8
-    returns)
+    (tie.spec get32-requires add-read-entry sub-read-entry part-read-entry-start part-read-entry-end read-entry-requires shared-slice-read-faulty
+    shared-slice-read-t11 returns)

@@ -1,9 +1,9 @@
-use mathlib.Core.Path.{sym, _∙_}
+use mathlib.Core.Path.{sym, ap, _∙_}
 use Prim.Native.Nat.{ℕ, _<_}
 use native.Mathlib.Omega.{arith}
 use borrow.Author.Tests.{not-true, not-false}
 use borrow.Author.Needs.{needs}
-use Rattle.image.specs.Walks.{walked-end, walked-out, walked-stray, walked-on}
+use Rattle.image.specs.Walks.{numbered, walked-end, walked-out, walked-stray, walked-on}
 use Rattle.codec.specs.Images.{decode}
 use Rattle.codec.specs.Laws.{message-decode}
 use Rattle.image.specs.Scan.{open-used, taken-used}
@@ -36,7 +36,7 @@ walk-returns : (t : ℕ) → walk-lts.Need-returns (
 ) (walk-at t) walk.Post
 walk-returns t c =
     let a = c .before .before .before .args in
-    sym (walked-end (decode (a .image .now)) (a .request .0) (a .left) (a .n .0) (a .links) (c .if1 .taken))
+    sym (ap numbered (walked-end (decode (a .image .now)) (a .request .0) (a .left) (a .n .0) (a .links) (c .if1 .taken)))
 
 walk-returns-2 : (t : ℕ) → walk-lts.Need-returns-2 (
   taken-answer-reads.Asked,
@@ -48,7 +48,7 @@ walk-returns-2 : (t : ℕ) → walk-lts.Need-returns-2 (
 ) (walk-at t) walk.Post
 walk-returns-2 t c =
     let a = c .before .before .before .before .args in
-    sym (walked-out (decode (a .image .now)) (a .request .0) (a .left) (a .n .0) (a .links) (c .before .if1 .left) (c .if2 .taken))
+    sym (ap numbered (walked-out (decode (a .image .now)) (a .request .0) (a .left) (a .n .0) (a .links) (c .before .if1 .left) (c .if2 .taken)))
 
 walk-taken-answer-requires : (t : ℕ) → walk-lts.Need-taken-answer-requires (
   taken-answer-reads.Asked,
@@ -70,7 +70,7 @@ walk-returns-3 : (t : ℕ) → walk-lts.Need-returns-3 (
 ) (walk-at t) walk.Post
 walk-returns-3 t c =
     let a = c .before .before .before .before .before .before .args in
-    sym (walked-stray (decode (a .image .now)) (a .request .0) (a .left) (a .n .0) (a .links) (c .before .before .before .if1 .left) (c .before .before .if2 .left) (sym (c .before .taken-answer .ensures) ∙ not-true _ (c .if3 .taken)))
+    sym (ap numbered (walked-stray (decode (a .image .now)) (a .request .0) (a .left) (a .n .0) (a .links) (c .before .before .before .if1 .left) (c .before .before .if2 .left) (sym (c .before .taken-answer .ensures) ∙ not-true _ (c .if3 .taken))))
 
 walk-load-message-requires : (t : ℕ) → walk-lts.Need-load-message-requires (
   taken-answer-reads.Asked,

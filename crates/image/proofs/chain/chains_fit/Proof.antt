@@ -4,15 +4,13 @@ use mathlib.Core.Logic.{⊎-elim}
 use Prim.Native.Nat.{_+_, _*_, _-_, _≤_}
 use native.Mathlib.Omega.{arith}
 use borrow.Author.Needs.{needs}
-use Rattle.values.specs.Records.{pass}
+use Rattle.protocol.specs.Tools.{pass, sumTo, countTo, allTo}
 use Rattle.codec.specs.Images.{decode}
 use Rattle.image.specs.Scan.{open-used, chains-rule}
-use Rattle.protocol.specs.Tools.{countTo, allTo}
-use Rattle.values.specs.Bits.{count-le}
+use Rattle.protocol.specs.Laws.Tests.{count-le}
 use Rattle.image.specs.Loops.{all-start, all-more, all-fails, count-start, count-more, sum-start, sum-more}
 use Rattle.image.specs.Walks.{followed, chained-links, whole, broken, no-chain, links-most}
 use Rattle.image.specs.Chains.{chainSound, links, isTaken}
-use Rattle.image.specs.Counts.{sumTo}
 use Rattle.image.proofs.chain.chains_fit.Statement.{statement}
 use Rattle.image.proofs.chain.chains_fit.Tie as tie
 

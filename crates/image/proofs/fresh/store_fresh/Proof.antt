@@ -6,11 +6,8 @@ use Rattle.image.proofs.fresh.store_fresh.Tie as tie
 clear-requires : tie.Need-clear-requires
 clear-requires c κs = search needs
 
-slice-aggregate-put-bytes : tie.Need-slice-aggregate-put-bytes
-slice-aggregate-put-bytes c = search needs
-
-put-bytes-requires : tie.Need-put-bytes-requires
-put-bytes-requires c κs = search needs
+put16-requires : tie.Need-put16-requires
+put16-requires c κs = search needs
 
 store-administrator-requires : tie.Need-store-administrator-requires
 store-administrator-requires c κs = search needs
@@ -27,18 +24,10 @@ same-length c = search needs
 returns : tie.Need-returns
 returns c =
     let a = c .before .before .before .before .before .before .before .before .before .before .before .before .before .before .before .before .before .before .before .before .before .before .args in
-    rw (c .before .before .store-servers .ensures, c .before .before .before .before .before .before .store-view .ensures, c .before .before .before .before .before .before .before .before .before .before .store-administrator .ensures, c .before .before .before .before .before .before .before .before .before .before .before .before .before .before .put-bytes .ensures, c .before .before .before .before .before .before .before .before .before .before .before .before .before .before .before .before .before .before .before .clear .ensures)
+    rw (c .before .before .store-servers .ensures, c .before .before .before .before .before .before .before .store-view .ensures, c .before .before .before .before .before .before .before .before .before .before .before .store-administrator .ensures, c .before .before .before .before .before .before .before .before .before .before .before .before .before .before .before .put16 .ensures, c .before .before .before .before .before .before .before .before .before .before .before .before .before .before .before .before .before .before .before .clear .ensures)
     (fresh-stored (a .image .now) (a .v) (c .before .before .before .before .before .before .before .before .before .before .before .before .before .before .before .before .before .before .before .before .before .before .pre))
 
 pub store-fresh-spec : {M : Type 1} → statement M
 store-fresh-spec =
     tie.close
-    (tie.spec
-    clear-requires
-    slice-aggregate-put-bytes
-    put-bytes-requires
-    store-administrator-requires
-    store-view-requires
-    store-servers-requires
-    same-length
-    returns)
+    (tie.spec clear-requires put16-requires store-administrator-requires store-view-requires store-servers-requires same-length returns)

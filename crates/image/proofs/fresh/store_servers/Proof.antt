@@ -2,6 +2,7 @@ use mathlib.Core.Path.{_≡_, ap, sym, _∙_}
 use Prim.Native.Nat.{_-_, _≤_}
 use native.Mathlib.Omega.{arith}
 use lib.ListN.{length}
+use Rattle.protocol.specs.Sizes.{servers}
 use borrow.Author.Needs.{needs}
 use Rattle.codec.specs.Layout.{imageSize}
 use Rattle.image.specs.Fresh.{seeded, seeded-start, seeded-more}
@@ -9,15 +10,15 @@ use Rattle.image.proofs.fresh.store_servers.Statement.{statement}
 use Rattle.image.proofs.fresh.store_servers.Tie as tie
 
 abbrev Inv-loop : tie.InvT-loop
-Inv-loop image₀ members k₀ image k = (k ≤ 32) × (image ≡ seeded image₀ members k) × (length image ≡ imageSize)
+Inv-loop image₀ members k₀ image k = (k ≤ servers) × (image ≡ seeded image₀ (members .0) k) × (length image ≡ imageSize)
 
 abbrev μ-loop : tie.MeasureT-loop
-μ-loop image₀ members k₀ image k = 32 - k
+μ-loop image₀ members k₀ image k = servers - k
 
 loop-holds : tie.Need-loop-holds Inv-loop μ-loop
 loop-holds c =
     let a = c .before .args in
-    (omega arith, sym (seeded-start (a .image .now) (a .members)), c .before .pre)
+    (omega arith, sym (seeded-start (a .image .now) (a .members .0)), c .before .pre)
 
 add-t7 : tie.Need-add-t7 Inv-loop μ-loop
 add-t7 c = search needs
@@ -39,7 +40,7 @@ loop-again c =
     let a = c .before .before .before .before .before .before .before .before .args in
     let l = c .before .before .before .before .before .before .loop in (
       omega arith,
-      rw (seeded-more (a .image .now) (a .members) (l .k), ← l .inv .1, ← c .before .before .before .before .fresh-server .ensures) (c .before .before .store-server .ensures),
+      rw (seeded-more (a .image .now) (a .members .0) (l .k), ← l .inv .1, ← c .before .before .before .before .fresh-server .ensures) (c .before .before .store-server .ensures),
       search needs,
     )
 
@@ -50,21 +51,10 @@ returns : tie.Need-returns Inv-loop μ-loop
 returns c =
     let a = c .before .before .before .args in
     let l = c .before .loop in
-    let e : l .k ≡ 32 = omega arith in
-    l .inv .1 ∙ ap (seeded (a .image .now) (a .members)) e
+    let e : l .k ≡ servers = omega arith in
+    l .inv .1 ∙ ap (seeded (a .image .now) (a .members .0)) e
 
 pub store-servers-spec : {M : Type 1} → statement M
 store-servers-spec =
     tie.close
-    (tie.spec
-    Inv-loop
-    μ-loop
-    loop-holds
-    add-t7
-    fresh-server-requires
-    store-server-requires
-    add-k
-    loop-less
-    loop-again
-    same-length
-    returns)
+    (tie.spec Inv-loop μ-loop loop-holds add-t7 fresh-server-requires store-server-requires add-k loop-less loop-again same-length returns)

@@ -18,8 +18,8 @@ returns c =
     let i = a .image .now in
     rw (server-decode i (a .s .0) (h .3) (h .4), ← c .before .before .load-server .ensures, not-true (c .before .before .load-server .result .faulty) (c .if1 .taken))
 
-holds-requires : tie.Need-holds-requires
-holds-requires c κs = search needs
+has-key-requires : tie.Need-has-key-requires
+has-key-requires c κs = search needs
 
 cast-result : tie.Need-cast-result
 cast-result c = search needs
@@ -27,11 +27,11 @@ cast-result c = search needs
 returns-2 : tie.Need-returns-2
 unfolding bad
 returns-2 c =
-    let a = c .before .before .before .before .before .args in
-    let h = c .before .before .before .before .before .pre in
+    let a = c .before .before .before .before .before .before .args in
+    let h = c .before .before .before .before .before .before .pre in
     let i = a .image .now in
-    rw (server-decode i (a .s .0) (h .3) (h .4), ← c .before .before .before .load-server .ensures, not-false (c .before .before .before .load-server .result .faulty) (c .before .if1 .left)) (ap bit (c .holds .ensures))
+    rw (server-decode i (a .s .0) (h .3) (h .4), ← c .before .before .before .before .load-server .ensures, not-false (c .before .before .before .before .load-server .result .faulty) (c .before .before .if1 .left)) (ap bit (c .has-key .ensures))
 
 pub bad-server-spec : {M : Type 1} → statement M
 bad-server-spec =
-    tie.close (tie.spec load-server-requires returns holds-requires cast-result returns-2)
+    tie.close (tie.spec load-server-requires returns has-key-requires cast-result returns-2)

@@ -1,20 +1,21 @@
 use mathlib.Core.Path.{_≡_, ap, sym, _∙_}
 use Prim.Native.Nat.{_+_, _-_, _≤_}
 use native.Mathlib.Omega.{arith}
+use Rattle.protocol.specs.Sizes.{servers}
 use borrow.Author.Needs.{needs}
 use Rattle.protocol.specs.Worlds.{bad}
 use Rattle.codec.specs.Images.{decode}
 use Rattle.protocol.specs.Tools.{countTo}
-use Rattle.values.specs.Bits.{count-le}
+use Rattle.protocol.specs.Laws.Tests.{count-le}
 use Rattle.image.specs.Loops.{count-start, count-more}
 use Rattle.image.proofs.premise.bad_servers.Statement.{statement}
 use Rattle.image.proofs.premise.bad_servers.Tie as tie
 
 abbrev Inv-loop : tie.InvT-loop
-Inv-loop image t n₀ k₀ n k = (k ≤ 32) × (n ≡ countTo (bad (decode image) (t .0)) k)
+Inv-loop image t n₀ k₀ n k = (k ≤ servers) × (n ≡ countTo (bad (decode image) (t .0)) k)
 
 abbrev μ-loop : tie.MeasureT-loop
-μ-loop image t n₀ k₀ n k = 32 - k
+μ-loop image t n₀ k₀ n k = servers - k
 
 loop-holds : tie.Need-loop-holds Inv-loop μ-loop
 loop-holds c =
@@ -51,20 +52,10 @@ returns : tie.Need-returns Inv-loop μ-loop
 returns c =
     let a = c .before .before .before .args in
     let l = c .before .loop in
-    let e : l .k ≡ 32 = omega arith in
+    let e : l .k ≡ servers = omega arith in
     l .inv .1 ∙ ap (countTo (bad (decode (a .image .now)) (a .t .0))) e
 
 pub bad-servers-spec : {M : Type 1} → statement M
 bad-servers-spec =
     tie.close
-    (tie.spec
-    Inv-loop
-    μ-loop
-    loop-holds
-    add-t7
-    bad-server-requires
-    add-n
-    add-k
-    loop-less
-    loop-again
-    returns)
+    (tie.spec Inv-loop μ-loop loop-holds add-t7 bad-server-requires add-n add-k loop-less loop-again returns)

@@ -40,11 +40,4 @@ returns-4 c = rw (eq-eqb _ _ (c .before .before .before .before .before .before 
 pub premise-spec : {M : Type 1} → statement M
 premise-spec =
     tie.close
-    (tie.spec
-    returns
-    readable-requires
-    returns-2
-    load-administrator-requires
-    premise-holds-requires
-    returns-3
-    returns-4)
+    (tie.spec returns readable-requires returns-2 load-administrator-requires premise-holds-requires returns-3 returns-4)

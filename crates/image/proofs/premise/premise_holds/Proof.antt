@@ -52,14 +52,4 @@ returns-2 c =
 pub premise-holds-spec : {M : Type 1} → statement M
 premise-holds-spec =
     tie.close
-    (tie.spec
-    Inv-loop
-    μ-loop
-    loop-holds
-    add-t6
-    view-holds-requires
-    returns
-    add-k
-    loop-less
-    loop-again
-    returns-2)
+    (tie.spec Inv-loop μ-loop loop-holds add-t6 view-holds-requires returns add-k loop-less loop-again returns-2)

@@ -1,9 +1,9 @@
 use mathlib.Core.Path.{ap, sym, _∙_}
 use borrow.Author.Tests.{not-true, not-false}
 use borrow.Author.Needs.{needs}
-use Rattle.values.specs.Records.{pass}
+use Rattle.protocol.specs.Tools.{pass}
 use Rattle.image.specs.Scan.{clientOk}
-use Rattle.codec.specs.Spelling.{clientPlain}
+use Rattle.codec.specs.Records.{clientPlain}
 use Rattle.codec.specs.Lists.{span}
 use Rattle.codec.specs.Layout.{clientPlace, clientWidth}
 use Rattle.image.proofs.readable.client_ok.Statement.{statement}
@@ -55,15 +55,5 @@ returns-2 c =
 pub client-ok-spec : {M : Type 1} → statement M
 client-ok-spec =
     tie.close
-    (tie.spec
-    sub-at
-    mul-at
-    add-at
-    add-client-plain
-    sub-client-plain
-    part-client-plain-start
-    part-client-plain-end
-    client-plain-requires
-    returns
-    client-fits-requires
-    returns-2)
+    (tie.spec sub-at mul-at add-at add-client-plain sub-client-plain part-client-plain-start part-client-plain-end client-plain-requires returns
+    client-fits-requires returns-2)

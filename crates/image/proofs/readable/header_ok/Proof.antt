@@ -1,9 +1,9 @@
 use mathlib.Core.Path.{ap, sym, _∙_}
 use borrow.Author.Tests.{not-true, not-false}
 use borrow.Author.Needs.{needs}
-use Rattle.values.specs.Records.{pass}
+use Rattle.protocol.specs.Tools.{pass}
 use Rattle.image.specs.Scan.{headerOk}
-use Rattle.codec.specs.Spelling.{headerPlain}
+use Rattle.codec.specs.Records.{headerPlain}
 use Rattle.codec.specs.Lists.{span}
 use Rattle.codec.specs.Layout.{headerWidth}
 use Rattle.image.proofs.readable.header_ok.Statement.{statement}
@@ -41,11 +41,4 @@ returns-2 c =
 pub header-ok-spec : {M : Type 1} → statement M
 header-ok-spec =
     tie.close
-    (tie.spec
-    sub-header-plain
-    part-header-plain-start
-    part-header-plain-end
-    header-plain-requires
-    returns
-    header-fits-requires
-    returns-2)
+    (tie.spec sub-header-plain part-header-plain-start part-header-plain-end header-plain-requires returns header-fits-requires returns-2)

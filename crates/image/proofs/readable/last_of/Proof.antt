@@ -1,6 +1,5 @@
 use mathlib.Core.Path.{sym}
 use borrow.Author.Needs.{needs}
-use Rattle.image.specs.Scan.{lastOf}
 use native.Mathlib.Nat.{add-zero}
 use Rattle.image.proofs.readable.last_of.Statement.{statement}
 use Rattle.image.proofs.readable.last_of.Tie as tie
@@ -15,11 +14,9 @@ add-t5 : tie.Need-add-t5
 add-t5 c = search needs
 
 returns : tie.Need-returns
-unfolding lastOf
 returns c = rw (c .enum-told .given .1) (sym (add-zero _))
 
 returns-2 : tie.Need-returns-2
-unfolding lastOf
 returns-2 c = rw (c .before .enum-told2 .given .1)
 
 pub last-of-spec : {M : Type 1} → statement M

@@ -1,7 +1,7 @@
 use mathlib.Core.Path.{ap, sym, _∙_}
 use borrow.Author.Tests.{not-true, not-false}
 use borrow.Author.Needs.{needs}
-use Rattle.values.specs.Records.{pass}
+use Rattle.protocol.specs.Tools.{pass}
 use Rattle.image.specs.Scan.{open-header, readable-scan, readable-size, scanned}
 use Rattle.protocol.specs.declared.Administrator.{Administrator}
 use Rattle.image.proofs.readable.readable.Statement.{statement}
@@ -70,18 +70,5 @@ returns-7 c =
 pub readable-spec : {M : Type 1} → statement M
 readable-spec =
     tie.close
-    (tie.spec
-    returns
-    header-ok-requires
-    returns-2
-    load-administrator-requires
-    views-ok-requires
-    returns-3
-    servers-ok-requires
-    returns-4
-    clients-ok-requires
-    returns-5
-    messages-ok-requires
-    returns-6
-    chains-fit-requires
-    returns-7)
+    (tie.spec returns header-ok-requires returns-2 load-administrator-requires views-ok-requires returns-3 servers-ok-requires returns-4
+    clients-ok-requires returns-5 messages-ok-requires returns-6 chains-fit-requires returns-7)

@@ -2,9 +2,9 @@ use mathlib.Core.Path.{ap, sym, _∙_}
 use native.Mathlib.Omega.{arith}
 use borrow.Author.Tests.{not-true, not-false}
 use borrow.Author.Needs.{needs}
-use Rattle.values.specs.Records.{pass}
+use Rattle.protocol.specs.Tools.{pass}
 use Rattle.image.specs.Scan.{server-rule, serverOk, open-high}
-use Rattle.codec.specs.Spelling.{serverPlain}
+use Rattle.codec.specs.Records.{serverPlain}
 use Rattle.codec.specs.Lists.{span}
 use Rattle.codec.specs.Layout.{serverPlace, serverWidth}
 use Rattle.image.proofs.readable.server_ok.Statement.{statement}
@@ -65,17 +65,5 @@ returns-2 c =
 pub server-ok-spec : {M : Type 1} → statement M
 server-ok-spec =
     tie.close
-    (tie.spec
-    cast-at
-    sub-at
-    mul-at
-    add-at
-    add-server-plain
-    sub-server-plain
-    part-server-plain-start
-    part-server-plain-end
-    server-plain-requires
-    returns
-    load-server-requires
-    server-fits-requires
-    returns-2)
+    (tie.spec cast-at sub-at mul-at add-at add-server-plain sub-server-plain part-server-plain-start part-server-plain-end server-plain-requires returns
+    load-server-requires server-fits-requires returns-2)

@@ -1,9 +1,9 @@
 use mathlib.Core.Path.{ap, sym, _∙_}
 use borrow.Author.Tests.{not-true, not-false}
 use borrow.Author.Needs.{needs}
-use Rattle.values.specs.Records.{pass}
+use Rattle.protocol.specs.Tools.{pass}
 use Rattle.image.specs.Scan.{view-rule, viewOk}
-use Rattle.codec.specs.Spelling.{viewPlain}
+use Rattle.codec.specs.Records.{viewPlain}
 use Rattle.codec.specs.Lists.{span}
 use Rattle.codec.specs.Layout.{viewPlace, viewWidth}
 use Rattle.image.proofs.readable.view_ok.Statement.{statement}
@@ -62,17 +62,5 @@ returns-2 c =
 pub view-ok-spec : {M : Type 1} → statement M
 view-ok-spec =
     tie.close
-    (tie.spec
-    cast-at
-    sub-at
-    mul-at
-    add-at
-    add-view-plain
-    sub-view-plain
-    part-view-plain-start
-    part-view-plain-end
-    view-plain-requires
-    returns
-    load-view-requires
-    view-fits-requires
-    returns-2)
+    (tie.spec cast-at sub-at mul-at add-at add-view-plain sub-view-plain part-view-plain-start part-view-plain-end view-plain-requires returns
+    load-view-requires view-fits-requires returns-2)

@@ -2,19 +2,21 @@ use mathlib.Core.Path.{_≡_, ap, sym, _∙_}
 use mathlib.Core.Bool.{true}
 use Prim.Native.Nat.{_+_, _-_, _≤_}
 use native.Mathlib.Omega.{arith}
+use Rattle.protocol.specs.Sizes.{views}
 use borrow.Author.Tests.{not-true, not-false}
 use borrow.Author.Needs.{needs}
-use Rattle.image.specs.Scan.{viewOk, lastOf, open-high}
+use Rattle.protocol.specs.Readable.{lastOf}
+use Rattle.image.specs.Scan.{viewOk, open-high}
 use Rattle.protocol.specs.Tools.{allTo}
 use Rattle.image.specs.Loops.{all-start, all-more, all-fails}
 use Rattle.image.proofs.readable.views_ok.Statement.{statement}
 use Rattle.image.proofs.readable.views_ok.Tie as tie
 
 abbrev Inv-loop : tie.InvT-loop
-Inv-loop image last k₀ k = (k ≤ 32) × (allTo (viewOk image) k ≡ true)
+Inv-loop image last k₀ k = (k ≤ views) × (allTo (viewOk image) k ≡ true)
 
 abbrev μ-loop : tie.MeasureT-loop
-μ-loop image last k₀ k = 32 - k
+μ-loop image last k₀ k = views - k
 
 last-of-requires : tie.Need-last-of-requires Inv-loop μ-loop
 last-of-requires c κs =
@@ -33,7 +35,7 @@ view-ok-requires c κs =
     (h .0 .size, omega arith, omega arith, c .before .before .last-of .ensures ∙ ap lastOf (h .1))
 
 returns : tie.Need-returns Inv-loop μ-loop
-returns c = sym (all-fails (viewOk (c .before .before .before .before .before .before .args .image .now)) 32 (c .before .before .before .loop .k + 1) (omega arith) (omega arith) (sym (c .before .view-ok .ensures) ∙ not-true _ (c .if1 .taken)))
+returns c = sym (all-fails (viewOk (c .before .before .before .before .before .before .args .image .now)) views (c .before .before .before .loop .k + 1) (omega arith) (omega arith) (sym (c .before .view-ok .ensures) ∙ not-true _ (c .if1 .taken)))
 
 add-k : tie.Need-add-k Inv-loop μ-loop
 add-k c = search needs
@@ -49,21 +51,10 @@ loop-again c =
 returns-2 : tie.Need-returns-2 Inv-loop μ-loop
 returns-2 c =
     let l = c .before .loop in
-    let e : l .k ≡ 32 = omega arith in
+    let e : l .k ≡ views = omega arith in
     sym (ap (allTo (viewOk (c .before .before .before .before .args .image .now))) (sym e) ∙ l .inv .1)
 
 pub views-ok-spec : {M : Type 1} → statement M
 views-ok-spec =
     tie.close
-    (tie.spec
-    Inv-loop
-    μ-loop
-    last-of-requires
-    loop-holds
-    add-t6
-    view-ok-requires
-    returns
-    add-k
-    loop-less
-    loop-again
-    returns-2)
+    (tie.spec Inv-loop μ-loop last-of-requires loop-holds add-t6 view-ok-requires returns add-k loop-less loop-again returns-2)

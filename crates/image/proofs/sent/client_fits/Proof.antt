@@ -1,7 +1,7 @@
 use mathlib.Core.Path.{sym, _∙_}
 use borrow.Author.Tests.{not-true, not-false}
 use borrow.Author.Needs.{needs}
-use Rattle.values.specs.Records.{pass}
+use Rattle.protocol.specs.Tools.{pass}
 use Rattle.image.specs.Scan.{client-rule}
 use Rattle.image.proofs.sent.client_fits.Statement.{statement}
 use Rattle.image.proofs.sent.client_fits.Tie as tie

@@ -1,7 +1,7 @@
 use mathlib.Core.Path.{refl, sym, _∙_}
 use borrow.Author.Tests.{lt-ltb, le-ltb, not-true, not-false}
 use borrow.Author.Needs.{needs}
-use Rattle.values.specs.Records.{pass}
+use Rattle.protocol.specs.Tools.{pass}
 use Rattle.codec.specs.Laws.{message-decode}
 use Rattle.image.specs.Scan.{end-rule, sent-used}
 use Rattle.image.proofs.sent.end_fits.Statement.{statement}

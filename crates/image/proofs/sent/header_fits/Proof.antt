@@ -1,7 +1,7 @@
 use mathlib.Core.Path.{sym, _∙_}
 use borrow.Author.Tests.{le-leb, lt-leb, not-true, not-false}
 use borrow.Author.Needs.{needs}
-use Rattle.values.specs.Records.{pass}
+use Rattle.protocol.specs.Tools.{pass}
 use Rattle.image.specs.Scan.{header-rule}
 use Rattle.image.proofs.sent.header_fits.Statement.{statement}
 use Rattle.image.proofs.sent.header_fits.Tie as tie
@@ -36,11 +36,4 @@ returns-3 c =
 pub header-fits-spec : {M : Type 1} → statement M
 header-fits-spec =
     tie.close
-    (tie.spec
-    load-used-requires
-    load-administrator-requires
-    returns
-    view-within-requires
-    returns-2
-    ending-fits-requires
-    returns-3)
+    (tie.spec load-used-requires load-administrator-requires returns view-within-requires returns-2 ending-fits-requires returns-3)

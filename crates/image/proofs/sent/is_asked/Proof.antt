@@ -1,7 +1,7 @@
 use mathlib.Core.Path.{sym, _∙_}
 use borrow.Author.Tests.{le-leb, lt-leb, not-true, not-false}
 use borrow.Author.Needs.{needs}
-use Rattle.values.specs.Records.{pass}
+use Rattle.protocol.specs.Tools.{pass}
 use Rattle.codec.specs.Laws.{message-decode}
 use Rattle.image.specs.Scan.{present-used, open-used}
 use Rattle.image.proofs.sent.is_asked.Statement.{statement}

@@ -36,14 +36,5 @@ returns-3 c = rw (c .before .before .phase2 .given .1) (c .writing-fits .ensures
 pub phase-fits-spec : {M : Type 1} → statement M
 phase-fits-spec =
     tie.close
-    (tie.spec
-    enum-told
-    idle-fits-requires
-    enum-known-phase
-    is-sent-requires
-    reading-fits-requires
-    enum-known-phase-2
-    writing-fits-requires
-    returns
-    returns-2
-    returns-3)
+    (tie.spec enum-told idle-fits-requires enum-known-phase is-sent-requires reading-fits-requires enum-known-phase-2 writing-fits-requires returns
+    returns-2 returns-3)

@@ -1,6 +1,6 @@
 use mathlib.Core.Path.{ap, _∙_}
 use borrow.Author.Needs.{needs}
-use Rattle.values.specs.Records.{messageRule}
+use Rattle.protocol.specs.Readable.{messageRule}
 use Rattle.image.specs.Scan.{sent-rule}
 use Rattle.image.proofs.sent.sent_fits.Statement.{statement}
 use Rattle.image.proofs.sent.sent_fits.Tie as tie

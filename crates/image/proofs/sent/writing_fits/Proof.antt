@@ -1,7 +1,7 @@
 use mathlib.Core.Path.{sym, _∙_}
 use borrow.Author.Tests.{not-true, not-false}
 use borrow.Author.Needs.{needs}
-use Rattle.values.specs.Records.{pass}
+use Rattle.protocol.specs.Tools.{pass}
 use Rattle.codec.specs.Laws.{message-decode}
 use Rattle.image.specs.Scan.{sent-used, open-used}
 use Rattle.image.proofs.sent.writing_fits.Statement.{statement}
@@ -41,11 +41,4 @@ returns-3 c =
 pub writing-fits-spec : {M : Type 1} → statement M
 writing-fits-spec =
     tie.close
-    (tie.spec
-    kind-fits-requires
-    returns
-    is-sent-requires
-    returns-2
-    load-message-requires
-    same-requires
-    returns-3)
+    (tie.spec kind-fits-requires returns is-sent-requires returns-2 load-message-requires same-requires returns-3)

@@ -1,7 +1,8 @@
 use mathlib.Core.Path.{sym, subst, _∙_}
 use borrow.Author.Tests.{not-true, not-false}
 use Rattle.image.specs.Readable.{read}
-use Rattle.journal.specs.Replays.{Played, Plays, legible, wrong-image, wrong-journal, unreadable, whole-replay}
+use Rattle.image.specs.Steps.{Played}
+use Rattle.journal.specs.Replays.{Plays, legible, wrong-image, wrong-journal, unreadable, whole-replay}
 use borrow.Author.Needs.{needs}
 use Rattle.journal.proofs.replay.replay.Statement.{statement}
 use Rattle.journal.proofs.replay.replay.Tie as tie

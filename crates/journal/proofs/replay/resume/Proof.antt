@@ -1,4 +1,5 @@
-use Rattle.journal.specs.Replays.{Played, Plays, rest-none, rest-lent}
+use Rattle.image.specs.Steps.{Played}
+use Rattle.journal.specs.Replays.{Plays, rest-none, rest-lent}
 use mathlib.Core.Path.{subst}
 use borrow.Author.Needs.{needs}
 use Rattle.journal.proofs.replay.resume.Statement.{statement}

@@ -12,12 +12,11 @@ returns : tie.Need-returns
 unfolding toWrite
 returns c = simp (ne-eqb _ _ (c .if1 .taken))
 
-add-entry-of : tie.Need-add-entry-of
+add-raised : tie.Need-add-raised
 unfolding countLeft
-add-entry-of c =
-    let d = c .before .before .before .before .before .before in
-    let h : ltb (d .args .e .stamp .count .0) 4294967295 ≡ true = simp (eq-eqb _ _ (c .before .if1 .left)) at (d .pre) in
-    omega (arith, ltb-true (d .args .e .stamp .count .0) 4294967295 h)
+add-raised c =
+    let h : ltb (c .before .before .before .before .before .before .args .e .stamp .count .0) 4294967295 ≡ true = simp (eq-eqb _ _ (c .before .if1 .left)) at (c .before .before .before .before .before .before .pre) in
+    omega (arith, ltb-true (c .before .before .before .before .before .before .args .e .stamp .count .0) 4294967295 h)
 
 entry-of-requires : tie.Need-entry-of-requires
 entry-of-requires c κs = search needs
@@ -31,4 +30,4 @@ returns-2 c =
     )
 
 pub to-write-spec : {M : Type 1} → statement M
-to-write-spec = tie.close (tie.spec returns add-entry-of entry-of-requires returns-2)
+to-write-spec = tie.close (tie.spec returns add-raised entry-of-requires returns-2)

@@ -4,16 +4,16 @@ use Rattle.values.specs.Bits.{bit-in}
 use Rattle.machines.proofs.servers.gathering.Statement.{statement}
 use Rattle.machines.proofs.servers.gathering.Tie as tie
 
-bit-of-requires : tie.Need-bit-of-requires
-bit-of-requires c κs = search needs
+with-key-requires : tie.Need-with-key-requires
+with-key-requires c κs = search needs
 
 returns : tie.Need-returns
 unfolding gathering
 returns c =
     simp (
-      c .before .bit-of .ensures,
+      c .with-key .ensures,
       bit-in _ (c .before .before .before .before .before .pre),
     )
 
 pub gathering-spec : {M : Type 1} → statement M
-gathering-spec = tie.close (tie.spec bit-of-requires returns)
+gathering-spec = tie.close (tie.spec with-key-requires returns)

@@ -7,17 +7,17 @@ use Rattle.machines.proofs.servers.joining.Tie as tie
 larger-requires : tie.Need-larger-requires
 larger-requires c κs = search needs
 
-bit-of-requires : tie.Need-bit-of-requires
-bit-of-requires c κs = search needs
+key-of-requires : tie.Need-key-of-requires
+key-of-requires c κs = search needs
 
 returns : tie.Need-returns
 unfolding joining
 returns c =
     simp (
-      c .bit-of .ensures,
+      c .key-of .ensures,
       c .before .larger .ensures,
       bit-in _ (c .before .before .before .before .before .pre),
     )
 
 pub joining-spec : {M : Type 1} → statement M
-joining-spec = tie.close (tie.spec larger-requires bit-of-requires returns)
+joining-spec = tie.close (tie.spec larger-requires key-of-requires returns)

@@ -37,31 +37,31 @@ returns-4 c =
       le-leb _ _ (c .before .before .before .if1 .left),
     )
 
-holds-requires : tie.Need-holds-requires
-holds-requires c κs = search needs
+has-key-requires : tie.Need-has-key-requires
+has-key-requires c κs = search needs
 
 returns-5 : tie.Need-returns-5
 unfolding mayAnswer guard
 returns-5 c =
     simp (
-      sym (c .before .holds .ensures) ∙ not-true (c .before .holds .result) (c .if5 .taken),
-      not-false (c .before .before .before .before .before .before .args .a .faulty) (c .before .before .if4 .left),
-      not-false (c .before .before .before .before .before .before .args .source) (c .before .before .before .if3 .left),
-      le-leb _ _ (c .before .before .before .before .if2 .left),
-      le-leb _ _ (c .before .before .before .before .before .if1 .left),
+      sym (c .before .has-key .ensures) ∙ not-true (c .before .has-key .result) (c .if5 .taken),
+      not-false (c .before .before .before .before .before .before .before .args .a .faulty) (c .before .before .before .if4 .left),
+      not-false (c .before .before .before .before .before .before .before .args .source) (c .before .before .before .before .if3 .left),
+      le-leb _ _ (c .before .before .before .before .before .if2 .left),
+      le-leb _ _ (c .before .before .before .before .before .before .if1 .left),
     )
 
 returns-6 : tie.Need-returns-6
 unfolding mayAnswer guard
 returns-6 c =
     simp (
-      sym (c .before .holds .ensures) ∙ not-false (c .before .holds .result) (c .if5 .left),
-      not-false (c .before .before .before .before .before .before .args .a .faulty) (c .before .before .if4 .left),
-      not-false (c .before .before .before .before .before .before .args .source) (c .before .before .before .if3 .left),
-      le-leb _ _ (c .before .before .before .before .if2 .left),
-      le-leb _ _ (c .before .before .before .before .before .if1 .left),
+      sym (c .before .has-key .ensures) ∙ not-false (c .before .has-key .result) (c .if5 .left),
+      not-false (c .before .before .before .before .before .before .before .args .a .faulty) (c .before .before .before .if4 .left),
+      not-false (c .before .before .before .before .before .before .before .args .source) (c .before .before .before .before .if3 .left),
+      le-leb _ _ (c .before .before .before .before .before .if2 .left),
+      le-leb _ _ (c .before .before .before .before .before .before .if1 .left),
     )
 
 pub may-answer-spec : {M : Type 1} → statement M
 may-answer-spec =
-    tie.close (tie.spec returns returns-2 returns-3 returns-4 holds-requires returns-5 returns-6)
+    tie.close (tie.spec returns returns-2 returns-3 returns-4 has-key-requires returns-5 returns-6)

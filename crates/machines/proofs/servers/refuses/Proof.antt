@@ -31,18 +31,18 @@ returns-5 : tie.Need-returns-5
 unfolding serveIn serve guard
 returns-5 c = simp (c .if5 .taken, ne-eqb _ _ (c .before .if4 .left), le-leb _ _ (c .before .before .if3 .left), le-leb _ _ (c .before .before .before .if2 .left), le-leb _ _ (c .before .before .before .before .if1 .left))
 
-holds-requires : tie.Need-holds-requires
-holds-requires c κs = search needs
+has-key-requires : tie.Need-has-key-requires
+has-key-requires c κs = search needs
 
 returns-6 : tie.Need-returns-6
 unfolding serveIn serve guard
-returns-6 c = simp (sym (c .before .holds .ensures) ∙ not-true (c .before .holds .result) (c .if6 .taken), c .before .before .if5 .left, ne-eqb _ _ (c .before .before .before .if4 .left), le-leb _ _ (c .before .before .before .before .if3 .left), le-leb _ _ (c .before .before .before .before .before .if2 .left), le-leb _ _ (c .before .before .before .before .before .before .if1 .left))
+returns-6 c = simp (sym (c .before .has-key .ensures) ∙ not-true (c .before .has-key .result) (c .if6 .taken), c .before .before .before .if5 .left, ne-eqb _ _ (c .before .before .before .before .if4 .left), le-leb _ _ (c .before .before .before .before .before .if3 .left), le-leb _ _ (c .before .before .before .before .before .before .if2 .left), le-leb _ _ (c .before .before .before .before .before .before .before .if1 .left))
 
 request-refuses-requires : tie.Need-request-refuses-requires
 request-refuses-requires c κs = search needs
 
 returns-7 : tie.Need-returns-7
-returns-7 c = c .request-refuses .ensures ∙ ap (λ (x : Result Reply). numberOf x) (sym (serves (c .before .before .before .before .before .before .before .before .before .before .before .args .a) (c .before .before .before .before .before .before .before .before .before .before .before .args .m) (c .before .before .before .before .before .before .before .before .before .before .before .args .member) (le-leb _ _ (c .before .before .before .before .before .before .before .if1 .left)) (and-both _ _ (le-leb _ _ (c .before .before .before .before .before .before .if2 .left)) (le-leb _ _ (c .before .before .before .before .before .if3 .left))) (ne-eqb _ _ (c .before .before .before .before .if4 .left)) (c .before .before .before .if5 .left) (sym (c .before .before .holds .ensures) ∙ not-false (c .before .before .holds .result) (c .before .if6 .left))))
+returns-7 c = c .request-refuses .ensures ∙ ap (λ (x : Result Reply). numberOf x) (sym (serves (c .before .before .before .before .before .before .before .before .before .before .before .before .args .a) (c .before .before .before .before .before .before .before .before .before .before .before .before .args .m) (c .before .before .before .before .before .before .before .before .before .before .before .before .args .member) (le-leb _ _ (c .before .before .before .before .before .before .before .before .if1 .left)) (and-both _ _ (le-leb _ _ (c .before .before .before .before .before .before .before .if2 .left)) (le-leb _ _ (c .before .before .before .before .before .before .if3 .left))) (ne-eqb _ _ (c .before .before .before .before .before .if4 .left)) (c .before .before .before .before .if5 .left) (sym (c .before .before .has-key .ensures) ∙ not-false (c .before .before .has-key .result) (c .before .if6 .left))))
 
 pub refuses-spec : {M : Type 1} → statement M
-refuses-spec = tie.close (tie.spec returns returns-2 returns-3 start-refuses-requires returns-4 returns-5 holds-requires returns-6 request-refuses-requires returns-7)
+refuses-spec = tie.close (tie.spec returns returns-2 returns-3 start-refuses-requires returns-4 returns-5 has-key-requires returns-6 request-refuses-requires returns-7)

@@ -1,8 +1,7 @@
-use mathlib.Core.Path.{sym, _∙_}
+use mathlib.Core.Path.{sym, _∙_, refl}
 use borrow.Author.Tests.{eq-eqb, ne-eqb, not-true, not-false}
 use Rattle.protocol.specs.Tools.{guard}
 use Rattle.codec.specs.Lists.{part}
-use mathlib.Core.Path.{refl}
 use Rattle.single.specs.Calls.{administratorCall}
 use borrow.Author.Needs.{needs}
 use Rattle.single.proofs.calls.administrator_call.Statement.{statement}
@@ -70,14 +69,8 @@ part-read-view-end c = search needs
 read-view-requires : tie.Need-read-view-requires
 read-view-requires c κs = search needs
 
-shared-slice-read-half2 : tie.Need-shared-slice-read-half2
-shared-slice-read-half2 c = search needs
-
-shared-slice-read-half2-2 : tie.Need-shared-slice-read-half2-2
-shared-slice-read-half2-2 c = search needs
-
-half2-requires : tie.Need-half2-requires
-half2-requires c κs = search needs
+get16-requires : tie.Need-get16-requires
+get16-requires c κs = search needs
 
 shared-slice-read-administrator-rule : tie.Need-shared-slice-read-administrator-rule
 shared-slice-read-administrator-rule c = search needs
@@ -87,7 +80,7 @@ administrator-rule-requires c κs = search needs
 
 returns-6 : tie.Need-returns-6
 unfolding administratorCall guard part
-returns-6 c = rw (eq-eqb _ _ (c .before .before .before .before .before .before .before .before .before .before .before .before .before .before .before .before .if1 .left), eq-eqb _ _ (c .before .before .before .before .before .before .before .before .before .before .before .before .before .before .before .if2 .left), (sym (c .before .before .before .before .before .before .before .before .before .before .before .before .before .before .administrator-plain .ensures) ∙ not-false _ (c .before .before .before .before .before .before .before .before .before .before .before .before .before .if3 .left)), eq-eqb _ _ (c .before .before .before .before .before .before .before .before .before .before .before .if4 .left), (sym (c .before .before .before .before .before .before .before .before .before .view-plain .ensures) ∙ not-false _ (c .before .before .before .before .before .before .before .before .if5 .left))) (c .administrator-rule .ensures ∙ rw (c .before .before .before .before .before .before .before .read-administrator .ensures, c .before .before .before .before .before .read-view .ensures, c .before .before .half2 .ensures) refl)
+returns-6 c = rw (eq-eqb _ _ (c .before .before .before .before .before .before .before .before .before .before .before .before .before .before .if1 .left), eq-eqb _ _ (c .before .before .before .before .before .before .before .before .before .before .before .before .before .if2 .left), (sym (c .before .before .before .before .before .before .before .before .before .before .before .before .administrator-plain .ensures) ∙ not-false _ (c .before .before .before .before .before .before .before .before .before .before .before .if3 .left)), eq-eqb _ _ (c .before .before .before .before .before .before .before .before .before .if4 .left), (sym (c .before .before .before .before .before .before .before .view-plain .ensures) ∙ not-false _ (c .before .before .before .before .before .before .if5 .left))) (c .administrator-rule .ensures ∙ rw (c .before .before .before .before .before .read-administrator .ensures, c .before .before .before .read-view .ensures, c .before .before .get16 .ensures) refl)
 
 pub administrator-call-spec : {M : Type 1} → statement M
-administrator-call-spec = tie.close (tie.spec returns add-if2 returns-2 administrator-plain-requires returns-3 shared-slice-read-if4 returns-4 add-view-plain sub-view-plain part-view-plain-start part-view-plain-end view-plain-requires returns-5 read-administrator-requires add-read-view sub-read-view part-read-view-start part-read-view-end read-view-requires shared-slice-read-half2 shared-slice-read-half2-2 half2-requires shared-slice-read-administrator-rule administrator-rule-requires returns-6)
+administrator-call-spec = tie.close (tie.spec returns add-if2 returns-2 administrator-plain-requires returns-3 shared-slice-read-if4 returns-4 add-view-plain sub-view-plain part-view-plain-start part-view-plain-end view-plain-requires returns-5 read-administrator-requires add-read-view sub-read-view part-read-view-start part-read-view-end read-view-requires get16-requires shared-slice-read-administrator-rule administrator-rule-requires returns-6)

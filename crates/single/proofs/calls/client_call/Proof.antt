@@ -1,8 +1,7 @@
-use mathlib.Core.Path.{sym, _∙_}
+use mathlib.Core.Path.{sym, _∙_, refl}
 use borrow.Author.Tests.{eq-eqb, ne-eqb, not-true, not-false}
 use Rattle.protocol.specs.Tools.{guard}
 use Rattle.codec.specs.Lists.{part}
-use mathlib.Core.Path.{refl}
 use Rattle.single.specs.Calls.{clientCall}
 use borrow.Author.Needs.{needs}
 use Rattle.single.proofs.calls.client_call.Statement.{statement}
@@ -26,12 +25,24 @@ returns-3 : tie.Need-returns-3
 unfolding clientCall guard part
 returns-3 c = rw (eq-eqb _ _ (c .before .before .before .if1 .left), eq-eqb _ _ (c .before .before .if2 .left), (sym (c .before .client-plain .ensures) ∙ not-true _ (c .if3 .taken)))
 
+add-entry-plain : tie.Need-add-entry-plain
+add-entry-plain c = search needs
+
+sub-entry-plain : tie.Need-sub-entry-plain
+sub-entry-plain c = search needs
+
+part-entry-plain-start : tie.Need-part-entry-plain-start
+part-entry-plain-start c = search needs
+
+part-entry-plain-end : tie.Need-part-entry-plain-end
+part-entry-plain-end c = search needs
+
 entry-plain-requires : tie.Need-entry-plain-requires
 entry-plain-requires c κs = search needs
 
 returns-4 : tie.Need-returns-4
 unfolding clientCall guard part
-returns-4 c = rw (eq-eqb _ _ (c .before .before .before .before .before .if1 .left), eq-eqb _ _ (c .before .before .before .before .if2 .left), (sym (c .before .before .before .client-plain .ensures) ∙ not-false _ (c .before .before .if3 .left)), (sym (c .before .entry-plain .ensures) ∙ not-true _ (c .if4 .taken)))
+returns-4 c = rw (eq-eqb _ _ (c .before .before .before .before .before .before .if1 .left), eq-eqb _ _ (c .before .before .before .before .before .if2 .left), (sym (c .before .before .before .before .client-plain .ensures) ∙ not-false _ (c .before .before .before .if3 .left)), (sym (c .before .entry-plain .ensures) ∙ not-true _ (c .if4 .taken)))
 
 read-client-requires : tie.Need-read-client-requires
 read-client-requires c κs = search needs
@@ -51,14 +62,8 @@ part-read-entry-end c = search needs
 read-entry-requires : tie.Need-read-entry-requires
 read-entry-requires c κs = search needs
 
-shared-slice-read-half2 : tie.Need-shared-slice-read-half2
-shared-slice-read-half2 c = search needs
-
-shared-slice-read-half2-2 : tie.Need-shared-slice-read-half2-2
-shared-slice-read-half2-2 c = search needs
-
-half2-requires : tie.Need-half2-requires
-half2-requires c κs = search needs
+get16-requires : tie.Need-get16-requires
+get16-requires c κs = search needs
 
 shared-slice-read-client-rule : tie.Need-shared-slice-read-client-rule
 shared-slice-read-client-rule c = search needs
@@ -71,7 +76,7 @@ client-rule-requires c κs = search needs
 
 returns-5 : tie.Need-returns-5
 unfolding clientCall guard part
-returns-5 c = rw (eq-eqb _ _ (c .before .before .before .before .before .before .before .before .before .before .before .before .before .before .if1 .left), eq-eqb _ _ (c .before .before .before .before .before .before .before .before .before .before .before .before .before .if2 .left), (sym (c .before .before .before .before .before .before .before .before .before .before .before .before .client-plain .ensures) ∙ not-false _ (c .before .before .before .before .before .before .before .before .before .before .before .if3 .left)), (sym (c .before .before .before .before .before .before .before .before .before .before .entry-plain .ensures) ∙ not-false _ (c .before .before .before .before .before .before .before .before .before .if4 .left))) (c .client-rule .ensures ∙ rw (c .before .before .before .before .before .before .before .before .read-client .ensures, c .before .before .before .before .before .before .read-entry .ensures, c .before .before .before .half2 .ensures) refl)
+returns-5 c = rw (eq-eqb _ _ (c .before .before .before .before .before .before .before .before .before .before .before .before .before .if1 .left), eq-eqb _ _ (c .before .before .before .before .before .before .before .before .before .before .before .before .if2 .left), (sym (c .before .before .before .before .before .before .before .before .before .before .before .client-plain .ensures) ∙ not-false _ (c .before .before .before .before .before .before .before .before .before .before .if3 .left)), (sym (c .before .before .before .before .before .before .before .before .entry-plain .ensures) ∙ not-false _ (c .before .before .before .before .before .before .before .if4 .left))) (c .client-rule .ensures ∙ rw (c .before .before .before .before .before .before .read-client .ensures, c .before .before .before .before .read-entry .ensures, c .before .before .before .get16 .ensures) refl)
 
 pub client-call-spec : {M : Type 1} → statement M
-client-call-spec = tie.close (tie.spec returns add-if2 returns-2 client-plain-requires returns-3 entry-plain-requires returns-4 read-client-requires add-read-entry sub-read-entry part-read-entry-start part-read-entry-end read-entry-requires shared-slice-read-half2 shared-slice-read-half2-2 half2-requires shared-slice-read-client-rule shared-slice-read-client-rule-2 client-rule-requires returns-5)
+client-call-spec = tie.close (tie.spec returns add-if2 returns-2 client-plain-requires returns-3 add-entry-plain sub-entry-plain part-entry-plain-start part-entry-plain-end entry-plain-requires returns-4 read-client-requires add-read-entry sub-read-entry part-read-entry-start part-read-entry-end read-entry-requires get16-requires shared-slice-read-client-rule shared-slice-read-client-rule-2 client-rule-requires returns-5)

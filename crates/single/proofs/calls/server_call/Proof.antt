@@ -1,8 +1,7 @@
-use mathlib.Core.Path.{sym, _∙_}
+use mathlib.Core.Path.{sym, _∙_, refl}
 use borrow.Author.Tests.{eq-eqb, ne-eqb, not-true, not-false}
 use Rattle.protocol.specs.Tools.{guard}
 use Rattle.codec.specs.Lists.{part}
-use mathlib.Core.Path.{refl}
 use Rattle.single.specs.Calls.{serverCall}
 use borrow.Author.Needs.{needs}
 use Rattle.single.proofs.calls.server_call.Statement.{statement}

@@ -4,32 +4,30 @@ use Prim.Native.Nat.{_<_, _^_}
 use lib.Dec.{eqb}
 use borrow.Author.Tests.{eq-eqb, ne-eqb}
 use borrow.Author.Needs.{needs}
+use Rattle.protocol.specs.declared.KeySet.{KeySet}
 use Rattle.protocol.specs.declared.Server.{Server}
 use Rattle.values.specs.Bits.{bitIn, own-in}
-use Rattle.values.specs.Records.{keyRule}
+use Rattle.protocol.specs.Readable.{keyRule}
 use Rattle.values.proofs.records.key_fits.Statement.{statement}
 use Rattle.values.proofs.records.key_fits.Tie as tie
 
-own : (s : Server) → s .keys < 2 ^ 32 → s .faulty ≡ false → (s .keys ≡ 0 → ⊥) → eqb (s .keys) (bitIn (s .view .0)) ≡ keyRule s
-unfolding keyRule
-own s h e f = simp (e, ne-eqb (s .keys) 0 f, own-in (s .keys) (s .view .0) h f)
+own : (s : Server) → s .keys .0 < 2 ^ 32 → s .faulty ≡ false → (s .keys .0 ≡ 0 → ⊥) → eqb (s .keys .0) (bitIn (s .view .0)) ≡ keyRule s
+own s h e f = simp (e, ne-eqb (s .keys .0) 0 f, own-in (s .keys .0) (s .view .0) h f)
 
 returns : tie.Need-returns
-unfolding keyRule
 returns c = simp (c .if1 .taken)
 
 returns-2 : tie.Need-returns-2
-unfolding keyRule
 returns-2 c = simp (eq-eqb _ _ (c .if2 .taken), c .before .before .if1 .left)
 
-bit-of-requires : tie.Need-bit-of-requires
-bit-of-requires c κs = search needs
+key-of-requires : tie.Need-key-of-requires
+key-of-requires c κs = search needs
 
 returns-3 : tie.Need-returns-3
 returns-3 c =
-    let s = c .before .before .before .before .before .before .args .s in
-    ap (eqb (s .keys)) (c .before .bit-of .ensures)
-    ∙ own s (search needs) (c .before .before .before .before .if1 .left) (c .before .before .if2 .left)
+    let s = c .before .before .before .before .before .before .before .before .args .s in
+    ap (λ (k : KeySet). eqb (s .keys .0) (k .0)) (c .before .before .key-of .ensures)
+    ∙ own s (search needs) (c .before .before .before .before .before .if1 .left) (c .before .before .before .if2 .left)
 
 pub key-fits-spec : {M : Type 1} → statement M
-key-fits-spec = tie.close (tie.spec returns returns-2 bit-of-requires returns-3)
+key-fits-spec = tie.close (tie.spec returns returns-2 key-of-requires returns-3)

@@ -2,23 +2,20 @@ use mathlib.Core.Path.{sym, _∙_}
 use borrow.Author.Tests.{le-leb, lt-leb, not-true, not-false}
 use borrow.Author.Needs.{needs}
 use Rattle.protocol.specs.Laws.Tests.{and-both}
-use Rattle.values.specs.Records.{messageRule, pass}
+use Rattle.protocol.specs.Tools.{pass}
 use Rattle.values.proofs.records.message_fits.Statement.{statement}
 use Rattle.values.proofs.records.message_fits.Tie as tie
 
 returns : tie.Need-returns
-unfolding messageRule
 returns c = rw (lt-leb _ _ (c .if1 .taken))
 
 returns-2 : tie.Need-returns-2
-unfolding messageRule
 returns-2 c = rw (le-leb _ _ (c .before .before .if1 .left), lt-leb _ _ (c .if2 .taken))
 
 sender-fits-requires : tie.Need-sender-fits-requires
 sender-fits-requires c κs = search needs
 
 returns-3 : tie.Need-returns-3
-unfolding messageRule
 returns-3 c =
     pass (and-both _ _ (le-leb _ _ (c .before .before .before .before .if1 .left)) (le-leb _ _ (c .before .before .if2 .left)))
     (rw (sym (c .before .sender-fits .ensures) ∙ not-true _ (c .if3 .taken)))
@@ -27,7 +24,6 @@ tag-fits-requires : tie.Need-tag-fits-requires
 tag-fits-requires c κs = search needs
 
 returns-4 : tie.Need-returns-4
-unfolding messageRule
 returns-4 c =
     pass (and-both _ _ (le-leb _ _ (c .before .before .before .before .before .before .if1 .left)) (le-leb _ _ (c .before .before .before .before .if2 .left)))
     (pass (sym (c .before .before .before .sender-fits .ensures) ∙ not-false _ (c .before .before .if3 .left))
@@ -37,7 +33,6 @@ request-fits-requires : tie.Need-request-fits-requires
 request-fits-requires c κs = search needs
 
 returns-5 : tie.Need-returns-5
-unfolding messageRule
 returns-5 c =
     pass (and-both _ _ (le-leb _ _ (c .before .before .before .before .before .before .before .before .if1 .left)) (le-leb _ _ (c .before .before .before .before .before .before .if2 .left)))
     (pass (sym (c .before .before .before .before .before .sender-fits .ensures) ∙ not-false _ (c .before .before .before .before .if3 .left))
@@ -48,7 +43,6 @@ next-fits-requires : tie.Need-next-fits-requires
 next-fits-requires c κs = search needs
 
 returns-6 : tie.Need-returns-6
-unfolding messageRule
 returns-6 c =
     pass (and-both _ _ (le-leb _ _ (c .before .before .before .before .before .before .before .before .before .before .if1 .left)) (le-leb _ _ (c .before .before .before .before .before .before .before .before .if2 .left)))
     (pass (sym (c .before .before .before .before .before .before .before .sender-fits .ensures) ∙ not-false _ (c .before .before .before .before .before .before .if3 .left))
@@ -60,7 +54,6 @@ entry-zero-requires : tie.Need-entry-zero-requires
 entry-zero-requires c κs = search needs
 
 returns-7 : tie.Need-returns-7
-unfolding messageRule
 returns-7 c =
     pass (and-both _ _ (le-leb _ _ (c .before .before .before .before .before .before .before .before .before .before .before .before .if1 .left)) (le-leb _ _ (c .before .before .before .before .before .before .before .before .before .before .if2 .left)))
     (pass (sym (c .before .before .before .before .before .before .before .before .before .sender-fits .ensures) ∙ not-false _ (c .before .before .before .before .before .before .before .before .if3 .left))
@@ -73,7 +66,6 @@ entry-fits-requires : tie.Need-entry-fits-requires
 entry-fits-requires c κs = search needs
 
 returns-8 : tie.Need-returns-8
-unfolding messageRule
 returns-8 c =
     pass (and-both _ _ (le-leb _ _ (c .before .before .before .before .before .before .before .before .before .before .before .before .before .if1 .left)) (le-leb _ _ (c .before .before .before .before .before .before .before .before .before .before .before .if2 .left)))
     (pass (sym (c .before .before .before .before .before .before .before .before .before .before .sender-fits .ensures) ∙ not-false _ (c .before .before .before .before .before .before .before .before .before .if3 .left))

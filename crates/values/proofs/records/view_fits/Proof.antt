@@ -1,6 +1,5 @@
 use borrow.Author.Tests.{eq-eqb, ne-eqb, le-leb, lt-leb}
 use borrow.Author.Needs.{needs}
-use Rattle.values.specs.Records.{viewRule}
 use Rattle.values.proofs.records.view_fits.Statement.{statement}
 use Rattle.values.proofs.records.view_fits.Tie as tie
 
@@ -8,16 +7,13 @@ sized-requires : tie.Need-sized-requires
 sized-requires c κs = search needs
 
 returns : tie.Need-returns
-unfolding viewRule
 returns c = rw (le-leb _ _ (c .before .if1 .taken)) (c .sized .ensures)
 
 returns-2 : tie.Need-returns-2
-unfolding viewRule
-returns-2 c = rw (lt-leb _ _ (c .before .before .if1 .left), ne-eqb _ _ (c .if2 .taken))
+returns-2 c = rw (lt-leb _ _ (c .before .before .before .if1 .left), ne-eqb _ _ (c .if2 .taken))
 
 returns-3 : tie.Need-returns-3
-unfolding viewRule
-returns-3 c = rw (lt-leb _ _ (c .before .before .before .if1 .left), eq-eqb _ _ (c .before .if2 .left))
+returns-3 c = rw (lt-leb _ _ (c .before .before .before .before .if1 .left), eq-eqb _ _ (c .before .if2 .left))
 
 pub view-fits-spec : {M : Type 1} → statement M
 view-fits-spec = tie.close (tie.spec sized-requires returns returns-2 returns-3)

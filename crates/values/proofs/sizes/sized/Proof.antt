@@ -17,7 +17,7 @@ returns c =
     simp (
       lt-leb _ _ (c .if1 .taken),
       ← c .before .before .size-of .ensures,
-      lt-ltb (c .before .before .before .args .v .members) (2 ^ 32) (search needs),
+      lt-ltb (c .before .before .before .args .v .members .0) (2 ^ 32) (search needs),
     )
 
 mul-result : tie.Need-mul-result
@@ -32,7 +32,7 @@ returns-2 c =
     simp (
       le-leb _ _ (c .if1 .left),
       ← c .before .before .size-of .ensures,
-      lt-ltb (c .before .before .before .args .v .members) (2 ^ 32) (search needs),
+      lt-ltb (c .before .before .before .args .v .members .0) (2 ^ 32) (search needs),
     )
 
 pub sized-spec : {M : Type 1} → statement M

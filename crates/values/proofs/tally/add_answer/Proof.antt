@@ -11,17 +11,17 @@ returns c = simp (ne-eqb _ _ (c .if1 .taken))
 larger-requires : tie.Need-larger-requires
 larger-requires c κs = search needs
 
-bit-of-requires : tie.Need-bit-of-requires
-bit-of-requires c κs = search needs
+with-server-requires : tie.Need-with-server-requires
+with-server-requires c κs = search needs
 
 returns-2 : tie.Need-returns-2
 unfolding addAnswer
 returns-2 c =
     simp (
-      c .before .bit-of .ensures,
+      c .with-server .ensures,
       c .before .before .larger .ensures,
       eq-eqb _ _ (c .before .before .before .before .before .if1 .left),
     )
 
 pub add-answer-spec : {M : Type 1} → statement M
-add-answer-spec = tie.close (tie.spec returns larger-requires bit-of-requires returns-2)
+add-answer-spec = tie.close (tie.spec returns larger-requires with-server-requires returns-2)

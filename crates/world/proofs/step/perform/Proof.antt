@@ -1,7 +1,7 @@
 use mathlib.Core.Path.{refl}
 use Rattle.codec.specs.Images.{decode}
 use Rattle.protocol.specs.Steps.{uses}
-use Rattle.protocol.specs.Laws.Turns.{client-of as who-client, server-of as who-server}
+use Rattle.protocol.specs.Laws.Kinds.{client-of as who-client, server-of as who-server}
 use Rattle.world.specs.Stored.{by}
 use Rattle.world.specs.Checks.{source-low}
 use Rattle.world.specs.Performs.{as-write, as-read, as-deliver, as-take, as-fault, as-false, as-view}

@@ -1,5 +1,7 @@
+use native.Mathlib.Omega.{arith}
 use borrow.Author.Needs.{needs}
-use Rattle.world.specs.Takes.{request-low, head-walk, tally-taken}
+use Rattle.world.specs.Takes.{request-low, head-walk, answer-low}
+use Rattle.world.specs.Gathered.{gathers-taken}
 use Rattle.world.proofs.take.taken_with.Statement.{statement}
 use Rattle.world.proofs.take.taken_with.Tie as tie
 
@@ -8,27 +10,34 @@ load-message-requires c κs = search needs
 
 load-message-requires-2 : tie.Need-load-message-requires-2
 load-message-requires-2 c κs =
-    let c1 = c .before .before .before .before in
-    (c1 .pre .legible .size, request-low (c1 .pre) _ (c .before .before .load-message .ensures))
+    let s = c .before .before .before .before in
+    (s .pre .legible .size, request-low (s .pre) _ (c .before .before .load-message .ensures))
 
-first-answer-requires : tie.Need-first-answer-requires
-first-answer-requires c κs = search needs
+server-alone-requires : tie.Need-server-alone-requires
+server-alone-requires c κs = search needs
 
-tally-requires : tie.Need-tally-requires
-tally-requires c κs =
-    let c1 = c .before .before .before .before .before in
-    let c2 = c1 .before .before in
-    head-walk (c2 .pre) _ (c1 .load-message .ensures) _ (c .before .before .load-message2 .ensures)
+gathered-requires : tie.Need-gathered-requires
+gathered-requires c κs = search needs
+
+gather-requires : tie.Need-gather-requires
+gather-requires c κs =
+    let c1 = c .before .before .before .before .before .before in
+    let s = c1 .before .before in
+    (head-walk (s .pre) _ (c1 .load-message .ensures) _ (c .before .before .before .load-message2 .ensures), omega (arith, c .gathered .ensures .1, answer-low (s .pre)))
+
+opened-requires : tie.Need-opened-requires
+opened-requires c κs = (c .before .before .before .before .before .before .before .before .before .pre .legible .size, c .gather .ensures .low)
 
 closes-requires : tie.Need-closes-requires
 closes-requires c κs = search needs
 
 returns : tie.Need-returns
 returns c =
-    let c1 = c .before .before .before .before in
+    let c1 = c .before .before .before .before .before .before in
     let c2 = c1 .before .before .before in
-    let c3 = c2 .before .before in
-    tally-taken (c3 .pre) _ (c2 .load-message .ensures) _ (c1 .load-message2 .ensures) (c3 .args .size) _ _ _ (c .before .before .first-answer .ensures) (c .before .tally .ensures) (c .closes .ensures)
+    let s = c2 .before .before in
+    gathers-taken (s .pre) _ (c2 .load-message .ensures) _ (c1 .load-message2 .ensures) (s .args .size) _ _ _ _ (c .before .before .before .before .server-alone .ensures)
+    (c .before .before .before .gathered .ensures) (c .before .before .gather .ensures) _ (c .before .opened .ensures) (c .closes .ensures)
 
 pub taken-with-spec : {M : Type 1} → statement M
 taken-with-spec =
@@ -36,7 +45,9 @@ taken-with-spec =
     (tie.spec
     load-message-requires
     load-message-requires-2
-    first-answer-requires
-    tally-requires
+    server-alone-requires
+    gathered-requires
+    gather-requires
+    opened-requires
     closes-requires
     returns)

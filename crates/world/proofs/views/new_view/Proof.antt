@@ -23,8 +23,8 @@ load-administrator-requires c κs = search needs
 entry-of-requires : tie.Need-entry-of-requires
 entry-of-requires c κs = search needs
 
-add-t16 : tie.Need-add-t16
-add-t16 c =
+add-t17 : tie.Need-add-t17
+add-t17 c =
     let c1 = c .before .before .before .before in
     let c2 = c1 .before .before .before in
     omega (arith, c1 .load-used .ensures, used-low (c2 .pre))
@@ -60,8 +60,8 @@ store-administrator-requires c κs =
     let c1 = c .before .before .before .before .before .before .before .before .before .before .before .before .before .before in
     c1 .pre .size
 
-add-t25 : tie.Need-add-t25
-add-t25 c =
+add-t26 : tie.Need-add-t26
+add-t26 c =
     let c1 = c .before .before .before .before .before .before .before .before in
     let c2 = c1 .before .before in
     let c3 = c2 .before .before .before in
@@ -86,8 +86,8 @@ store-view-requires c κs =
     let b = call-low (decode (a .image .now)) (a .v) _ (sym e ∙ ap called (c2 .called2 .given .1)) in
     (image-size (administrator-put (image-of (c6 .pre)) _ (c1 .store-administrator .ensures)), omega arith, omega (arith, n, b))
 
-add-t29 : tie.Need-add-t29
-add-t29 c = search needs
+add-t30 : tie.Need-add-t30
+add-t30 c = search needs
 
 send-requires : tie.Need-send-requires
 send-requires c κs =
@@ -154,7 +154,7 @@ new-view-spec =
     load-used-requires
     load-administrator-requires
     entry-of-requires
-    add-t16
+    add-t17
     call-requires
     enum-known-called
     enum-known-called-2
@@ -162,9 +162,9 @@ new-view-spec =
     returns
     request-requires
     store-administrator-requires
-    add-t25
+    add-t26
     store-view-requires
-    add-t29
+    add-t30
     send-requires
     same-length-2
     returns-2

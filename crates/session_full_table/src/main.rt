@@ -1,4 +1,0 @@
-// A session of the program: all message numbers are used.
-fn main() {
-    archive_run::run();
-}
