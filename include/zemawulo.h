@@ -1,13 +1,14 @@
 /* The archive's register: a world of servers, views, clients and messages in a
- * lent image of 21,648 bytes, moved by steps of 12 bytes. docs/LAYOUT.md has
- * every byte of both.
+ * lent image of 21,712 bytes, moved by steps of 12 bytes. docs/LAYOUT.md has
+ * every byte of both, and of all else that is lent here.
  *
  * Every answer is refusal + 256 * result, and 0 as refusal means done. Beside a
  * refusal the result is 0, but for the steps of a replay, and no lent byte is
- * changed, but for what a replay did before its stop. No call allocates memory,
- * keeps a pointer or has a state of its own. Any length is allowed and any byte:
- * what does not fit is refused. Buffers of one call must not overlap; one that
- * is only read may be of any kind of memory that no other thread writes. */
+ * changed, but for what a replay did before its stop and the fresh world that 15
+ * of zw_shorten leaves. No call allocates memory, keeps a pointer or has a state
+ * of its own. Any length is allowed and any byte: what does not fit is refused.
+ * Buffers of one call must not overlap; one that is only read may be of any kind
+ * of memory that no other thread writes. */
 #ifndef ZEMAWULO_H
 #define ZEMAWULO_H
 
@@ -18,14 +19,20 @@
 extern "C" {
 #endif
 
-#define ZW_IMAGE 21648         /* bytes of an image */
+#define ZW_IMAGE 21712         /* bytes of an image */
 #define ZW_STEP 12             /* bytes of a step */
 #define ZW_SERVER 20           /* bytes of a server's record */
-#define ZW_CLIENT 16           /* bytes of a client's record */
+#define ZW_CLIENT 20           /* bytes of a client's record */
 #define ZW_ADMINISTRATOR 4     /* bytes of the administrator's record */
 #define ZW_SERVER_CALL 24      /* bytes of what is asked of a server */
 #define ZW_CLIENT_CALL 16      /* bytes of what is asked of a client */
 #define ZW_ADMINISTRATOR_CALL 12 /* bytes of what is asked of the administrator */
+#define ZW_SHORTEN_STEPS 512   /* steps of a journal that is shortened, at most */
+#define ZW_LOG_LINE 20         /* bytes of a line of a log that is judged */
+#define ZW_LOG_LINES 256       /* lines of a log that is judged, at most */
+#define ZW_ORDER_LINE 2        /* bytes of a line's number in an order */
+#define ZW_ENTRY 12            /* bytes of an entry */
+#define ZW_ANSWER 16           /* bytes of an answer without a signature */
 
 /* Refusals. */
 enum zw_refusal {
@@ -40,7 +47,12 @@ enum zw_refusal {
     ZW_SIZE = 8,        /* size rule broken, or no view is left */
     ZW_NO_KEY = 9,      /* the server lacks that key */
     ZW_FULL = 10,       /* all message numbers are used */
-    ZW_COUNT = 11       /* the write would need too large a count */
+    ZW_COUNT = 11,      /* the write would need too large a count */
+    ZW_IDLE = 12,       /* the client is idle */
+    ZW_NO_ORDER = 13,   /* no order of the log exists */
+    ZW_MALFORMED = 14,  /* a log or a list of answers that breaks its rules */
+    ZW_NO_REFUSAL = 15, /* the replay stops on no refusal */
+    ZW_UNVOUCHED = 16   /* no entry qualifies */
 };
 
 static inline unsigned zw_refusal_of(uint64_t answer) { return (unsigned)(answer & 255); }
@@ -54,7 +66,7 @@ uint64_t zw_fresh(uint8_t *image, size_t n, uint32_t members, uint8_t f);
 uint64_t zw_quorum(uint32_t n, uint32_t f);
 
 /* One step. Result: the number of the client whose operation it completed, or
- * 0; the operation's entry is in that client's record. Refusals 1 to 11. */
+ * 0; the operation's entry is in that client's record. Refusals 1 to 12. */
 uint64_t zw_step(uint8_t *image, size_t n, const uint8_t *step, size_t m);
 
 /* Whether no view has more faulty servers with its key than its threshold.
@@ -62,12 +74,14 @@ uint64_t zw_step(uint8_t *image, size_t n, const uint8_t *step, size_t m);
 uint64_t zw_premise(const uint8_t *image, size_t n);
 
 /* The steps of a journal, one behind the other, up to the first that is
- * refused. Result: the steps done, beside a refusal too. */
+ * refused. Result: the steps done, beside a refusal too, exact below 2^56 (the
+ * remainder by 2^56 is told). Refusals 1 to 12. */
 uint64_t zw_replay(uint8_t *image, size_t n, const uint8_t *journal, size_t m);
 
 /* The rest of a journal: its steps but the first ones, which were done before
  * on this image, up to the first that is refused. Result: the steps done now,
- * beside a refusal too. Refusal 1 also if the journal has fewer steps. */
+ * beside a refusal too, exact below 2^56. Refusals 1 to 12; 1 also if the journal
+ * has fewer steps. */
 uint64_t zw_resume(uint8_t *image, size_t n, const uint8_t *journal, size_t m, uint64_t steps);
 
 /* The rules of one machine, on its record alone, as a real machine runs them.
@@ -80,8 +94,10 @@ uint64_t zw_resume(uint8_t *image, size_t n, const uint8_t *journal, size_t m, u
  * view that was asked for, and its record stays as it is. */
 uint64_t zw_server(uint8_t *server, size_t n, const uint8_t *call, size_t m);
 
-/* A client: it begins a write or a read, or its phase closes with an entry.
- * Result 1 if its operation is complete. */
+/* A client: it begins a write or a read (rules 1, 2), its phase closes with an
+ * entry (rule 4), or it gives its operation up (rule 8, all else of the call
+ * zero; 12, it is idle). Result 1 if its operation is complete, else 0, as for
+ * one that is given up. */
 uint64_t zw_client(uint8_t *client, size_t n, const uint8_t *call, size_t m);
 
 /* The administrator: it calls a new view, or END closes. Result 0. */

@@ -11,7 +11,7 @@ use crate::world::{Client, Fresh, Header, Message, Server, View, World};
 pub type Image = [u8; IMAGE_SIZE];
 
 /// A record of N bytes in the image.
-trait Record<const N: usize>: Sized {
+pub trait Record<const N: usize>: Sized {
     fn load(bytes: &[u8; N]) -> Self;
     fn bytes(&self) -> [u8; N];
 }
@@ -96,18 +96,21 @@ impl Record<SERVER_SIZE> for Server {
 
 impl Record<CLIENT_SIZE> for Client {
     fn load(bytes: &[u8; CLIENT_SIZE]) -> Client {
-        let [phase, kind, r0, r1, entry @ ..] = *bytes;
+        let [phase, kind, r0, r1, entry @ .., l0, l1, l2, l3] = *bytes;
         Client {
             phase,
             kind,
             request: u16::from_le_bytes([r0, r1]),
             entry: Entry::load(&entry),
+            largest: u32::from_le_bytes([l0, l1, l2, l3]),
         }
     }
 
     fn bytes(&self) -> [u8; CLIENT_SIZE] {
         let [r0, r1] = self.request.to_le_bytes();
-        joined([self.phase, self.kind, r0, r1], self.entry.bytes())
+        let head = [self.phase, self.kind, r0, r1];
+        let entry: [u8; CLIENT_SIZE - 4] = joined(self.entry.bytes(), self.largest.to_le_bytes());
+        joined(head, entry)
     }
 }
 

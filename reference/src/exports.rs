@@ -11,9 +11,21 @@ extern "C" {
     fn zw_step(image: *mut u8, n: usize, step: *const u8, m: usize) -> u64;
     fn zw_premise(image: *const u8, n: usize) -> u64;
     fn zw_replay(image: *mut u8, n: usize, journal: *const u8, m: usize) -> u64;
+    fn zw_resume(image: *mut u8, n: usize, journal: *const u8, m: usize, steps: u64) -> u64;
+    fn zw_server(server: *mut u8, n: usize, call: *const u8, m: usize) -> u64;
+    fn zw_client(client: *mut u8, n: usize, call: *const u8, m: usize) -> u64;
+    fn zw_administrator(record: *mut u8, n: usize, call: *const u8, m: usize) -> u64;
 }
 
-/// The library of `libexports.a`.
+/// A function that writes to one buffer and reads another.
+type WithTwo = unsafe extern "C" fn(*mut u8, usize, *const u8, usize) -> u64;
+
+fn with_two(function: WithTwo, lent: &mut [u8], read: &[u8]) -> u64 {
+    // SAFETY: both are pointer and length of slices, and they do not overlap.
+    unsafe { function(lent.as_mut_ptr(), lent.len(), read.as_ptr(), read.len()) }
+}
+
+/// The library that is linked.
 pub struct Exports;
 
 impl Library for Exports {
@@ -28,8 +40,7 @@ impl Library for Exports {
     }
 
     fn step(&self, image: &mut [u8], step: &[u8]) -> u64 {
-        // SAFETY: both are pointer and length of slices, and they do not overlap.
-        unsafe { zw_step(image.as_mut_ptr(), image.len(), step.as_ptr(), step.len()) }
+        with_two(zw_step, image, step)
     }
 
     fn premise(&self, image: &[u8]) -> u64 {
@@ -38,14 +49,24 @@ impl Library for Exports {
     }
 
     fn replay(&self, image: &mut [u8], journal: &[u8]) -> u64 {
+        with_two(zw_replay, image, journal)
+    }
+
+    fn resume(&self, image: &mut [u8], journal: &[u8], steps: u64) -> u64 {
+        let (n, m) = (image.len(), journal.len());
         // SAFETY: both are pointer and length of slices, and they do not overlap.
-        unsafe {
-            zw_replay(
-                image.as_mut_ptr(),
-                image.len(),
-                journal.as_ptr(),
-                journal.len(),
-            )
-        }
+        unsafe { zw_resume(image.as_mut_ptr(), n, journal.as_ptr(), m, steps) }
+    }
+
+    fn server(&self, record: &mut [u8], asked: &[u8]) -> u64 {
+        with_two(zw_server, record, asked)
+    }
+
+    fn client(&self, record: &mut [u8], asked: &[u8]) -> u64 {
+        with_two(zw_client, record, asked)
+    }
+
+    fn administrator(&self, record: &mut [u8], asked: &[u8]) -> u64 {
+        with_two(zw_administrator, record, asked)
     }
 }

@@ -1,7 +1,7 @@
 //! Sizes, counts and places in the image, each named here and nowhere else.
 
 /// The version that the header carries.
-pub const VERSION: u16 = 1;
+pub const VERSION: u16 = 2;
 
 /// Views are 1 to 32.
 pub const VIEWS: usize = 32;
@@ -23,9 +23,21 @@ pub const ENTRY_SIZE: usize = 12;
 pub const HEADER_SIZE: usize = 16;
 pub const VIEW_SIZE: usize = 8;
 pub const SERVER_SIZE: usize = 20;
-pub const CLIENT_SIZE: usize = 16;
+pub const CLIENT_SIZE: usize = 20;
 pub const MESSAGE_SIZE: usize = 20;
 pub const STEP_SIZE: usize = 12;
+
+/// The administrator's record: the header from the newest view to the END
+/// number.
+pub const ADMINISTRATOR_AT: usize = 4;
+pub const ADMINISTRATOR_SIZE: usize = 4;
+
+/// What is asked of a single machine: four bytes, then a message, an entry or a
+/// view.
+pub const ASKED_SIZE: usize = 4;
+pub const SERVER_CALL_SIZE: usize = ASKED_SIZE + MESSAGE_SIZE;
+pub const CLIENT_CALL_SIZE: usize = ASKED_SIZE + ENTRY_SIZE;
+pub const ADMINISTRATOR_CALL_SIZE: usize = ASKED_SIZE + VIEW_SIZE;
 
 /// Where each part of the image begins.
 pub const VIEWS_AT: usize = HEADER_SIZE;
@@ -36,4 +48,4 @@ pub const MESSAGES_AT: usize = CLIENTS_AT + CLIENTS * CLIENT_SIZE;
 /// Bytes of a whole image.
 pub const IMAGE_SIZE: usize = MESSAGES_AT + MESSAGES * MESSAGE_SIZE;
 
-const _: () = assert!(IMAGE_SIZE == 21_648);
+const _: () = assert!(IMAGE_SIZE == 21_712);

@@ -1,4 +1,4 @@
-//! The archive's rules, written a second time from document 01, in plain Rust.
+//! The archive's rules, written a second time from documents 01 and 02, in plain Rust.
 //!
 //! It shares neither code nor tables with the proved library, so that where
 //! both agree, on many worlds and many steps, the agreement says something.
@@ -6,6 +6,8 @@
 //! journals to try them on; the third looks at what came out.
 
 // The rules.
+pub mod administrator;
+pub mod client;
 pub mod codec;
 pub mod entry;
 pub mod layout;
@@ -18,6 +20,7 @@ pub mod record;
 pub mod refusal;
 pub mod rules;
 pub mod server;
+pub mod single;
 pub mod step;
 pub mod take;
 pub mod world;

@@ -88,6 +88,16 @@ pub fn replay(image: &mut [u8], journal: &[u8]) -> Replayed {
     replayed
 }
 
+/// The part of the journal that begins after so many steps. A journal with
+/// fewer is of a wrong length.
+pub fn resume(image: &mut [u8], journal: &[u8], steps: u64) -> Replayed {
+    let whole = journal.len() / STEP_SIZE;
+    match usize::try_from(steps) {
+        Ok(steps) if steps <= whole => replay(image, &journal[steps * STEP_SIZE..]),
+        _ => Replayed::not_begun(Reason::JournalLength),
+    }
+}
+
 /// The journal on a decoded world.
 pub fn replay_world(world: &mut World, journal: &[u8]) -> Replayed {
     let mut done = 0;

@@ -26,7 +26,7 @@ macro_rules! clauses {
 }
 
 clauses! {
-    /// The version is 1.
+    /// The version is 2.
     Version,
     /// At most 1,023 messages are used.
     Used,
@@ -348,7 +348,8 @@ fn is_view(world: &World, view: u8) -> bool {
     (1..=world.header.newest).contains(&view)
 }
 
-fn sender_fits(kind: u8, sender: u8) -> bool {
+/// Who may send a message of this kind.
+pub fn sender_fits(kind: u8, sender: u8) -> bool {
     match kind {
         message_kind::READ | message_kind::WRITE => (1..=LAST_CLIENT).contains(&sender),
         message_kind::END | message_kind::START => sender == 0,
@@ -359,14 +360,7 @@ fn sender_fits(kind: u8, sender: u8) -> bool {
 
 /// True for a used message of kind 1 to 3.
 fn is_request(world: &World, number: u16) -> bool {
-    world.message(number).is_some_and(asks)
-}
-
-fn asks(message: &Message) -> bool {
-    matches!(
-        message.kind,
-        message_kind::READ | message_kind::WRITE | message_kind::END
-    )
+    world.message(number).is_some_and(Message::asks)
 }
 
 fn taken_answer(message: &Message) -> bool {
@@ -385,7 +379,7 @@ enum Walk {
 fn chains(world: &World, used: usize, judge: &mut impl Judge) -> Flow {
     let mut met = [false; MESSAGES];
     for number in 1..=used {
-        if asks(&world.messages[number]) {
+        if world.messages[number].asks() {
             let end = walk(world, number as u16, &mut met);
             judge.clause(Clause::ChainOnly, !matches!(end, Walk::Stranger))?;
             judge.clause(Clause::ChainOnce, !matches!(end, Walk::Repetition))?;

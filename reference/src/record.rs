@@ -14,6 +14,9 @@ pub mod step_kind {
     pub const FAULT: u8 = 5;
     pub const FALSE_ANSWER: u8 = 6;
     pub const NEW_VIEW: u8 = 7;
+    pub const GIVE_UP: u8 = 8;
+    /// The last kind there is.
+    pub const LAST: u8 = GIVE_UP;
 }
 
 #[derive(Clone, Copy, Debug, Default, PartialEq, Eq)]
@@ -60,7 +63,7 @@ const SOURCE: Range = Some((0, LAST_MESSAGE as u32));
 const ANY: Range = Some((0, u32::MAX));
 
 /// For each kind from 1 on, the range of each field in the order of `FIELDS`.
-const USED: [[Range; 6]; 7] = [
+const USED: [[Range; 6]; step_kind::LAST as usize] = [
     // who, view, f, message, source, value
     [CLIENT, UNUSED, UNUSED, UNUSED, UNUSED, ANY], // write
     [CLIENT, UNUSED, UNUSED, UNUSED, UNUSED, UNUSED], // read
@@ -69,6 +72,7 @@ const USED: [[Range; 6]; 7] = [
     [SERVER, UNUSED, UNUSED, UNUSED, UNUSED, UNUSED], // fault
     [SERVER, VIEW, UNUSED, MESSAGE, SOURCE, UNUSED], // false answer
     [UNUSED, UNUSED, ANY, UNUSED, UNUSED, ANY],    // new view
+    [CLIENT, UNUSED, UNUSED, UNUSED, UNUSED, UNUSED], // give up
 ];
 
 impl Step {
@@ -109,7 +113,7 @@ impl Step {
     /// others are zero. It looks at the step alone.
     pub fn check(&self) -> Result<(), Reason> {
         let ranges = match self.kind {
-            1..=7 => &USED[usize::from(self.kind) - 1],
+            1..=step_kind::LAST => &USED[usize::from(self.kind) - 1],
             _ => return Err(Reason::UnknownKind),
         };
         for (field, range) in FIELDS.into_iter().zip(ranges) {
@@ -186,6 +190,14 @@ impl Step {
             kind: step_kind::NEW_VIEW,
             f,
             value: members,
+            ..Step::default()
+        }
+    }
+
+    pub fn give_up(client: u8) -> Step {
+        Step {
+            kind: step_kind::GIVE_UP,
+            who: client,
             ..Step::default()
         }
     }

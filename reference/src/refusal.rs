@@ -8,12 +8,14 @@ use crate::step::Close;
 
 #[derive(Clone, Copy, Debug, PartialEq, Eq, Hash, PartialOrd, Ord)]
 pub enum Reason {
-    /// 1: the image is not 21,648 bytes long.
+    /// 1: the image is not 21,712 bytes long.
     ImageLength,
     /// 1: a step is not 12 bytes long.
     StepLength,
     /// 1: a journal is not a multiple of 12 bytes long.
     JournalLength,
+    /// 1: a machine's record, or what is asked of it, is not as long as it is.
+    RecordLength,
     /// 2: no world has this image.
     Unreadable,
     /// 3: no step has this kind.
@@ -22,6 +24,10 @@ pub enum Reason {
     OutOfRange(Field),
     /// 3: a field that the kind does not use is set.
     Unused(Field),
+    /// 3: a machine's record is out of range.
+    RecordRange,
+    /// 3: what is asked of a machine is out of range.
+    CallRange,
     /// 4: the client has an operation open.
     ClientBusy,
     /// 4: the newest view is being ended already.
@@ -60,6 +66,10 @@ pub enum Reason {
     TakenBefore,
     /// 7: nobody waits for answers to its request.
     NobodyWaits,
+    /// 7: the client has no open phase to close.
+    NothingOpen,
+    /// 7: the administrator ends no view.
+    NothingEnding,
     /// 8: too few servers for that many faults.
     SizeRule,
     /// 8: view 32 is the last.
@@ -70,8 +80,14 @@ pub enum Reason {
     NoNumber,
     /// 10: the close must send and all message numbers are used.
     NoNumberToClose(Close),
-    /// 11: the closing write would need a count over 4,294,967,295.
+    /// 11: the closing write would need a count over 4,294,967,295, above the
+    /// count read.
     CountTooLarge,
+    /// 11: it would need one above the largest that its client gave, though not
+    /// above the count read.
+    OwnCountTooLarge,
+    /// 12: the client has no operation to give up.
+    ClientIdle,
 }
 
 impl Reason {
@@ -79,19 +95,20 @@ impl Reason {
     pub fn number(self) -> u8 {
         use Reason::*;
         match self {
-            ImageLength | StepLength | JournalLength => 1,
+            ImageLength | StepLength | JournalLength | RecordLength => 1,
             Unreadable => 2,
-            UnknownKind | OutOfRange(_) | Unused(_) => 3,
+            UnknownKind | OutOfRange(_) | Unused(_) | RecordRange | CallRange => 3,
             ClientBusy | EndingAlready => 4,
             NoSuchMessage | AnswerDelivered | NotAnAnswer | NotARequest | NoSuchSource
             | SourceNotWrite => 5,
             ServerFaulty | FaultyAlready | ServerCorrect => 6,
             NoViewYet | KeyGivenUp | EndOfOtherView | NotAMember | ViewNotBelow
-            | KeyHeldAlready | TakenBefore | NobodyWaits => 7,
+            | KeyHeldAlready | TakenBefore | NobodyWaits | NothingOpen | NothingEnding => 7,
             SizeRule | LastView => 8,
             LacksKey => 9,
             NoNumber | NoNumberToClose(_) => 10,
-            CountTooLarge => 11,
+            CountTooLarge | OwnCountTooLarge => 11,
+            ClientIdle => 12,
         }
     }
 }

@@ -13,11 +13,14 @@ pub trait Rules {
     const START_RETURNS_KEY: bool = false;
     /// A read ends with its READ phase.
     const SKIPS_WRITE_BACK: bool = false;
+    /// A write's count is one above the count read, whatever its client gave
+    /// before.
+    const FORGETS_OWN_COUNT: bool = false;
     /// The premise stops counting faults in a view once a quorum has left it.
     const FORGETS_LEFT_VIEWS: bool = false;
 }
 
-/// The rules of document 01.
+/// The rules of document 01, with the requests of document 02.
 pub struct Sound;
 impl Rules for Sound {}
 
@@ -39,6 +42,11 @@ impl Rules for StartReturnsKey {
 pub struct SkipsWriteBack;
 impl Rules for SkipsWriteBack {
     const SKIPS_WRITE_BACK: bool = true;
+}
+
+pub struct ForgetsOwnCount;
+impl Rules for ForgetsOwnCount {
+    const FORGETS_OWN_COUNT: bool = true;
 }
 
 pub struct ForgetsLeftViews;

@@ -17,22 +17,27 @@ pub fn deliver<R: Rules>(world: &mut World, server: u8, number: u16) -> Outcome 
     }
 }
 
-/// READ, WRITE and END: a correct server that holds the key of its own view
-/// answers with that view and the entry it holds by then.
+/// READ, WRITE and END: the server answers, if a number is left for it.
 fn perform(world: &mut World, server: u8, number: u16, message: &Message) -> Outcome {
-    let record = world.server(server);
-    serves(record, message)?;
+    let after = performed(world.server(server), message)?;
     world.number_left()?;
-    let record = world.server_mut(server);
-    if message.kind == message_kind::WRITE {
-        record.entry = record.entry.keep_larger(&message.entry);
-    }
-    let answer = answer(server, record.view, number, record.entry);
-    if message.kind == message_kind::END {
-        record.keys = 0;
-    }
-    world.send(answer);
+    *world.server_mut(server) = after;
+    world.send(answer(server, after.view, number, after.entry));
     Ok(Done::just(Deed::Answered(message.kind)))
+}
+
+/// The record of a server after READ, WRITE or END. It answers with the view
+/// and the entry that it then holds.
+pub fn performed(server: &Server, message: &Message) -> Result<Server, Reason> {
+    serves(server, message)?;
+    let mut after = *server;
+    if message.kind == message_kind::WRITE {
+        after.entry = after.entry.keep_larger(&message.entry);
+    }
+    if message.kind == message_kind::END {
+        after.keys = 0;
+    }
+    Ok(after)
 }
 
 /// Whether the server's rule for READ, WRITE or END applies.
@@ -52,30 +57,49 @@ fn serves(server: &Server, message: &Message) -> Result<(), Reason> {
     Ok(())
 }
 
-/// START of view t asks for no key. A correct member below t moves to t; a
-/// faulty one only gets the key.
+/// START: there is no answer.
 fn start<R: Rules>(world: &mut World, server: u8, message: &Message) -> Outcome {
+    let member = world.view(message.view).has_member(server);
+    let record = world.server_mut(server);
+    *record = started::<R>(record, message, member)?;
+    Ok(Done::just(if record.is_faulty() {
+        Deed::KeyAdded
+    } else {
+        Deed::Started
+    }))
+}
+
+/// The record of a server after START of view t, which asks for no key. A
+/// correct member below t moves to t; a faulty one only gets the key.
+pub fn started<R: Rules>(
+    server: &Server,
+    message: &Message,
+    member: bool,
+) -> Result<Server, Reason> {
     let view = message.view;
-    if !world.view(view).has_member(server) {
+    if !member {
         return Err(Reason::NotAMember);
     }
-    let record = world.server_mut(server);
     let comes_again =
-        R::START_RETURNS_KEY && !record.is_faulty() && record.view == view && !record.serves();
-    if record.view >= view && !comes_again {
+        R::START_RETURNS_KEY && !server.is_faulty() && server.view == view && !server.serves();
+    if server.view >= view && !comes_again {
         return Err(Reason::ViewNotBelow);
     }
-    if record.is_faulty() {
-        if record.holds_key(view) {
+    if server.is_faulty() {
+        if server.holds_key(view) {
             return Err(Reason::KeyHeldAlready);
         }
-        record.keys |= bit(view);
-        return Ok(Done::just(Deed::KeyAdded));
+        return Ok(Server {
+            keys: server.keys | bit(view),
+            ..*server
+        });
     }
-    record.view = view;
-    record.keys = bit(view);
-    record.entry = record.entry.keep_larger(&message.entry);
-    Ok(Done::just(Deed::Started))
+    Ok(Server {
+        view,
+        keys: bit(view),
+        entry: server.entry.keep_larger(&message.entry),
+        ..*server
+    })
 }
 
 /// A server turns faulty; it keeps what it holds.
@@ -92,23 +116,25 @@ pub fn fault(world: &mut World, server: u8) -> Outcome {
 /// entry of any WRITE, or the empty entry if the source is 0.
 pub fn false_answer(world: &mut World, server: u8, view: u8, number: u16, source: u16) -> Outcome {
     let request = world.message(number).ok_or(Reason::NoSuchMessage)?;
-    if !matches!(
-        request.kind,
-        message_kind::READ | message_kind::WRITE | message_kind::END
-    ) {
+    if !request.asks() {
         return Err(Reason::NotARequest);
     }
     let entry = shown(world, source)?;
-    let record = world.server(server);
-    if !record.is_faulty() {
-        return Err(Reason::ServerCorrect);
-    }
-    if !record.holds_key(view) {
-        return Err(Reason::LacksKey);
-    }
+    may_lie(world.server(server), view)?;
     world.number_left()?;
     world.send(answer(server, view, number, entry));
     Ok(Done::just(Deed::Lied))
+}
+
+/// Whether the server may answer with this view as it likes.
+pub fn may_lie(server: &Server, view: u8) -> Result<(), Reason> {
+    if !server.is_faulty() {
+        return Err(Reason::ServerCorrect);
+    }
+    if !server.holds_key(view) {
+        return Err(Reason::LacksKey);
+    }
+    Ok(())
 }
 
 /// The entry that a false answer shows.

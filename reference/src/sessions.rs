@@ -6,7 +6,7 @@ use crate::generate::profile::{Profile, FULL, RUSH, STORM};
 use crate::journal::Journal;
 use crate::layout::{LAST_MESSAGE, STEP_SIZE};
 use crate::program::run;
-use crate::record::Step;
+use crate::record::{step_kind, Step};
 use crate::rules::Sound;
 use crate::script::Script;
 
@@ -38,9 +38,11 @@ pub fn sessions() -> Vec<Session> {
         Session::new("replaced-entry", replaced_entry().input()),
         Session::new("stale-read", stale_read().input()),
         Session::new("unfinished-write", unfinished_write().input()),
-        Session::new("many-views", drawn(33, &RUSH).input()),
-        Session::new("many-clients", drawn(182, &STORM).input()),
-        Session::new("full-year", drawn(118, &FULL).input()),
+        Session::new("given-up", given_up().input()),
+        Session::new("given-up-surfaces", given_up_surfaces().input()),
+        Session::new("many-views", drawn(53, &RUSH).input()),
+        Session::new("many-clients", drawn(53, &STORM).input()),
+        Session::new("full-year", drawn(210, &FULL).input()),
         Session::new("full-table", full_table().input()),
         Session::new("empty", Vec::new()),
         Session::new("first-cut-short", worked().input()[..7].to_vec()),
@@ -68,13 +70,7 @@ pub fn drawn_sessions(seed: u64, count: u64) -> Vec<Session> {
 
 /// A drawn journal without its odd steps, so that nothing stops it.
 fn drawn(seed: u64, profile: &Profile) -> Journal {
-    let mut weights = profile.weights;
-    weights[8] = 0;
-    let profile = Profile {
-        weights,
-        ..profile.clone()
-    };
-    journal::<Sound>(seed, &profile)
+    journal::<Sound>(seed, &profile.with_odd(false))
 }
 
 fn cut(mut input: Vec<u8>) -> Vec<u8> {
@@ -182,6 +178,45 @@ pub fn unfinished_write() -> Journal {
     script.journal
 }
 
+/// A bench PC restarts during a filing, which never reached a server. Its
+/// client gives up and files again, under a stamp that was never given.
+pub fn given_up() -> Journal {
+    let mut script = Script::new(0b111, 0);
+    script.act(Step::write(1, 1000));
+    script.exchange(script.request(1), &[1, 2]);
+    script.act(Step::give_up(1));
+    script.write(1, 1500, &[2, 3]);
+    script.read(2, &[1, 3]);
+    // Given up again, in its first phase; a read given up while it writes back.
+    script.act(Step::write(1, 2000));
+    script.act(Step::give_up(1));
+    script.act(Step::read(2));
+    script.exchange(script.request(2), &[1, 2]);
+    script.act(Step::give_up(2));
+    script.write(1, 2500, &[1, 2]);
+    script.read(2, &[2, 3]);
+    script.journal
+}
+
+/// The write that was given up had reached one server. It surfaces in a read;
+/// what its client files afterwards stands above it.
+pub fn given_up_surfaces() -> Journal {
+    let mut script = Script::new(0b111, 0);
+    script.act(Step::write(1, 1000));
+    script.exchange(script.request(1), &[1, 2]);
+    let write = script.request(1);
+    script.answer(3, write);
+    script.act(Step::give_up(1));
+    script.read(2, &[1, 2]);
+    script.read(2, &[2, 3]);
+    script.write(1, 1500, &[1, 2]);
+    // The old WRITE arrives late everywhere.
+    script.answer(1, write);
+    script.answer(2, write);
+    script.read(3, &[1, 2]);
+    script.journal
+}
+
 /// All message numbers used by answers; taking still works, until a close must
 /// send.
 fn full_table() -> Journal {
@@ -206,87 +241,105 @@ fn full_table() -> Journal {
     script.journal.then(Step::take(answers[3]))
 }
 
+/// Client 1 has written, on servers 1 to 3. Their answers to its READ are 2, 3
+/// and 4; its WRITE is 5, with the answers 6, 7 and 8.
+fn begun() -> Script {
+    let mut script = Script::new(0b1111, 1);
+    script.write(1, 5, &[1, 2, 3]);
+    script
+}
+
+/// Then server 4 has turned faulty and the view is being ended: END is 9.
+fn ending() -> Script {
+    let mut script = begun();
+    script.act(Step::fault(4));
+    script.act(Step::new_view(0b1111, 1));
+    script.act(Step::deliver(1, script.world.header.end));
+    script
+}
+
+/// Then the view has changed.
+fn changed() -> Script {
+    let mut script = begun();
+    script.change_view(0b1111, 1, &[1, 2, 3], &[1, 2]);
+    script
+}
+
 /// A session for each way to be refused that a short run can meet.
 fn refused_steps() -> Vec<Session> {
-    let begun = || {
-        let mut script = Script::new(0b1111, 1);
-        script.write(1, 5, &[1, 2, 3]);
-        script
-    };
-    let ending = || {
-        let mut script = begun();
-        script.act(Step::fault(4));
-        script.act(Step::new_view(0b1111, 1));
-        script.act(Step::deliver(1, script.world.header.end));
-        script
-    };
-    let changed = || {
-        let mut script = begun();
-        script.change_view(0b1111, 1, &[1, 2, 3], &[1, 2]);
-        script
-    };
     let start = changed().last();
-    // The answers of servers 1 to 3 to the first READ are 2, 3, 4; its WRITE is
-    // 5, with the answers 6, 7, 8; then comes END, which is 9.
-    let cases = [
+    let cases: Vec<(&str, fn() -> Script, Step)> = vec![
         (
             "3-kind",
-            begun(),
+            begun,
             Step {
-                kind: 8,
+                kind: step_kind::LAST + 1,
                 ..Step::default()
             },
         ),
-        ("3-client", begun(), Step::read(17)),
-        ("3-server", begun(), Step::fault(0)),
-        ("3-view", begun(), Step::false_answer(1, 33, 1, 0)),
-        ("3-message", begun(), Step::take(1024)),
+        ("3-client", begun, Step::read(17)),
+        ("3-server", begun, Step::fault(0)),
+        ("3-view", begun, Step::false_answer(1, 33, 1, 0)),
+        ("3-message", begun, Step::take(1024)),
         (
             "3-unused",
-            begun(),
+            begun,
             Step {
                 value: 1,
                 ..Step::read(1)
             },
         ),
-        ("4-busy", busy(begun()), Step::write(2, 1)),
-        ("4-ending", ending(), Step::new_view(0b1, 0)),
-        ("5-deliver-unused", begun(), Step::deliver(1, 9)),
-        ("5-deliver-answer", begun(), Step::deliver(1, 2)),
-        ("5-take-request", begun(), Step::take(5)),
-        ("5-source", begun(), Step::false_answer(1, 1, 1, 1)),
-        ("6-deliver", ending(), Step::deliver(4, 1)),
-        ("6-fault", ending(), Step::fault(4)),
-        ("6-false-answer", ending(), Step::false_answer(3, 1, 1, 0)),
-        ("7-key-given-up", ending(), Step::deliver(1, 1)),
-        ("7-no-view", begun(), Step::deliver(9, 1)),
-        ("7-other-end", changed(), Step::deliver(1, 9)),
-        ("7-start-again", changed(), Step::deliver(1, start)),
-        ("7-not-a-member", changed(), Step::deliver(5, start)),
-        ("7-taken", busy(begun()), Step::take(2)),
-        ("7-closed", late(begun()), Step::take(9)),
-        ("8-size", begun(), Step::new_view(0b111, 1)),
-        ("8-largest-f", begun(), Step::new_view(u32::MAX, 255)),
-        ("9-no-key", ending(), Step::false_answer(4, 2, 1, 5)),
+        ("4-busy", busy, Step::write(2, 1)),
+        ("4-ending", ending, Step::new_view(0b1, 0)),
+        ("5-deliver-unused", begun, Step::deliver(1, 9)),
+        ("5-deliver-answer", begun, Step::deliver(1, 2)),
+        ("5-take-request", begun, Step::take(5)),
+        ("5-source", begun, Step::false_answer(1, 1, 1, 1)),
+        ("6-deliver", ending, Step::deliver(4, 1)),
+        ("6-fault", ending, Step::fault(4)),
+        ("6-false-answer", ending, Step::false_answer(3, 1, 1, 0)),
+        ("7-key-given-up", ending, Step::deliver(1, 1)),
+        ("7-no-view", begun, Step::deliver(9, 1)),
+        ("7-other-end", changed, Step::deliver(1, 9)),
+        ("7-start-again", changed, Step::deliver(1, start)),
+        ("7-not-a-member", changed, Step::deliver(5, start)),
+        ("7-taken", busy, Step::take(2)),
+        ("7-closed", late, Step::take(9)),
+        ("8-size", begun, Step::new_view(0b111, 1)),
+        ("8-largest-f", begun, Step::new_view(u32::MAX, 255)),
+        ("9-no-key", ending, Step::false_answer(4, 2, 1, 5)),
+        ("12-idle", begun, Step::give_up(1)),
+        ("7-given-up", restarted, Step::take(10)),
     ];
     cases
         .into_iter()
-        .map(|(name, script, step)| {
+        .map(|(name, begin, step)| {
             // What follows a refused step is not read.
-            let journal = script.journal.then(step).then(Step::read(9));
+            let journal = begin().journal.then(step).then(Step::read(9));
             Session::new(&format!("refused-{name}"), cut(journal.input()))
         })
         .collect()
 }
 
 /// Client 2 has a write open.
-fn busy(mut script: Script) -> Script {
+fn busy() -> Script {
+    let mut script = begun();
     script.act(Step::write(2, 6));
     script
 }
 
+/// Client 2 has given its write up; its READ was answered.
+fn restarted() -> Script {
+    let mut script = begun();
+    script.act(Step::write(2, 6));
+    script.answer(1, 9);
+    script.act(Step::give_up(2));
+    script
+}
+
 /// Server 4 answers the first READ long after it closed.
-fn late(mut script: Script) -> Script {
+fn late() -> Script {
+    let mut script = begun();
     script.act(Step::deliver(4, 1));
     script
 }

@@ -2,14 +2,15 @@
 //! leaves the world as it was, since each rule tests all before it changes
 //! anything.
 
+use crate::administrator;
+use crate::client;
 use crate::entry::Entry;
-use crate::layout::LAST_VIEW;
 use crate::record::{step_kind, Step};
 use crate::refusal::Reason;
 use crate::rules::Rules;
 use crate::server::{deliver, false_answer, fault};
 use crate::take::take;
-use crate::world::{message_kind, operation_kind, phase, Message, View, World};
+use crate::world::{message_kind, operation_kind, Message, View, World};
 
 /// A phase, or the wait for END answers, that an answer belongs to.
 #[derive(Clone, Copy, Debug, PartialEq, Eq, Hash, PartialOrd, Ord)]
@@ -49,6 +50,8 @@ pub enum Deed {
     Lied,
     /// The administrator sent END.
     Ending,
+    /// A client gave its operation up.
+    GaveUp,
 }
 
 /// An accepted step: what it did, and the client whose operation it completed,
@@ -85,51 +88,45 @@ pub fn step<R: Rules>(world: &mut World, step: &Step) -> Outcome {
             false_answer(world, step.who, step.view, step.message, step.source)
         }
         step_kind::NEW_VIEW => new_view(world, step.value, step.f),
+        step_kind::GIVE_UP => give_up(world, step.who),
         _ => Err(Reason::UnknownKind),
     }
 }
 
 /// Write and read begin alike: a READ goes out, and the client remembers what
 /// it is for.
-fn begin(world: &mut World, client: u8, kind: u8, entry: Entry) -> Outcome {
-    if world.client(client).phase != phase::IDLE {
-        return Err(Reason::ClientBusy);
-    }
+fn begin(world: &mut World, number: u8, kind: u8, entry: Entry) -> Outcome {
+    let after = client::begin(world.client(number), kind, entry, world.next_number())?;
     world.number_left()?;
-    let request = world.send(Message {
+    world.send(Message {
         kind: message_kind::READ,
-        sender: client,
+        sender: number,
         ..Message::default()
     });
-    let record = world.client_mut(client);
-    record.phase = phase::READING;
-    record.kind = kind;
-    record.request = request;
-    record.entry = entry;
+    *world.client_mut(number) = after;
     Ok(Done::just(Deed::Began))
+}
+
+/// The client's open phase becomes idle; the messages stay.
+fn give_up(world: &mut World, number: u8) -> Outcome {
+    let record = world.client_mut(number);
+    *record = client::give_up(record)?;
+    Ok(Done::just(Deed::GaveUp))
 }
 
 /// The administrator records the next view and ends the newest.
 fn new_view(world: &mut World, members: u32, f: u8) -> Outcome {
-    if world.is_ending() {
-        return Err(Reason::EndingAlready);
-    }
     let pending = View {
         members,
         f,
         ..View::default()
     };
-    if !pending.keeps_size_rule() {
-        return Err(Reason::SizeRule);
-    }
-    let newest = world.header.newest;
-    if newest >= LAST_VIEW {
-        return Err(Reason::LastView);
-    }
+    let after = administrator::call(&world.header, &pending, world.next_number())?;
     world.number_left()?;
+    world.header = after;
+    let newest = world.header.newest;
     world.views[usize::from(newest)] = pending;
-    world.header.ending = 1;
-    world.header.end = world.send(Message {
+    world.send(Message {
         kind: message_kind::END,
         view: newest,
         ..Message::default()

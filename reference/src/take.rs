@@ -1,6 +1,8 @@
 //! Taking an answer: it goes to the head of its request's chain, and closes
 //! what waits for it if the answers of its view now come from a quorum.
 
+use crate::administrator;
+use crate::client;
 use crate::entry::Entry;
 use crate::refusal::Reason;
 use crate::rules::Rules;
@@ -50,7 +52,9 @@ pub fn take<R: Rules>(world: &mut World, number: u16) -> Outcome {
         Close::ReadOfRead if R::SKIPS_WRITE_BACK => {
             Ok(end_with_read_phase(world, number, tally.largest))
         }
-        Close::ReadOfWrite | Close::ReadOfRead => close_read(world, number, close, tally.largest),
+        Close::ReadOfWrite | Close::ReadOfRead => {
+            close_read::<R>(world, number, close, tally.largest)
+        }
         Close::WriteOfWrite | Close::WriteOfRead => Ok(close_write(world, number, close)),
         Close::End => close_end(world, number, tally.largest),
     }
@@ -116,42 +120,33 @@ fn asker(world: &World, number: u16) -> u8 {
 
 /// A READ phase closes: the WRITE goes out, with a new entry for a write and
 /// the one chosen for a read.
-fn close_read(world: &mut World, number: u16, close: Close, chosen: Entry) -> Outcome {
-    let client = asker(world, number);
-    let entry = if close == Close::ReadOfWrite {
-        let count = chosen.count.checked_add(1).ok_or(Reason::CountTooLarge)?;
-        Entry::new(count, client, world.client(client).entry.value)
-    } else {
-        chosen
-    };
+fn close_read<R: Rules>(world: &mut World, number: u16, close: Close, chosen: Entry) -> Outcome {
+    let asker = asker(world, number);
+    let after = client::close_read::<R>(world.client(asker), asker, chosen, world.next_number())?;
     world
         .number_left()
         .map_err(|_| Reason::NoNumberToClose(close))?;
     link(world, number);
-    let request = world.send(Message {
+    world.send(Message {
         kind: message_kind::WRITE,
-        sender: client,
-        entry,
+        sender: asker,
+        entry: after.entry,
         ..Message::default()
     });
-    let record = world.client_mut(client);
-    record.phase = phase::WRITING;
-    record.request = request;
-    record.entry = entry;
+    *world.client_mut(asker) = after;
     Ok(Done::just(Deed::Closed(close)))
 }
 
 /// A WRITE phase closes: the operation is complete, and its entry stays in the
 /// client's record.
 fn close_write(world: &mut World, number: u16, close: Close) -> Done {
-    let client = asker(world, number);
+    let asker = asker(world, number);
     link(world, number);
-    let record = world.client_mut(client);
-    record.phase = phase::IDLE;
-    record.request = 0;
+    let record = world.client_mut(asker);
+    *record = client::close_write(record);
     Done {
         deed: Deed::Closed(close),
-        completed: client,
+        completed: asker,
     }
 }
 
@@ -165,13 +160,12 @@ fn end_with_read_phase(world: &mut World, number: u16, chosen: Entry) -> Done {
 /// The END closes: the pending view becomes the newest, and START goes out with
 /// the entry chosen.
 fn close_end(world: &mut World, number: u16, chosen: Entry) -> Outcome {
+    let after = administrator::advance(&world.header)?;
     world
         .number_left()
         .map_err(|_| Reason::NoNumberToClose(Close::End))?;
     link(world, number);
-    world.header.newest += 1;
-    world.header.ending = 0;
-    world.header.end = 0;
+    world.header = after;
     world.send(Message {
         kind: message_kind::START,
         view: world.header.newest,

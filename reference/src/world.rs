@@ -64,6 +64,8 @@ pub struct Client {
     pub kind: u8,
     pub request: u16,
     pub entry: Entry,
+    /// The largest count this client ever gave a write of its own.
+    pub largest: u32,
 }
 
 #[derive(Clone, Copy, Debug, Default, PartialEq, Eq)]
@@ -75,6 +77,16 @@ pub struct Message {
     pub request: u16,
     pub next: u16,
     pub entry: Entry,
+}
+
+impl Message {
+    /// True for READ, WRITE and END, which are answered.
+    pub fn asks(&self) -> bool {
+        matches!(
+            self.kind,
+            message_kind::READ | message_kind::WRITE | message_kind::END
+        )
+    }
 }
 
 #[derive(Clone, Debug, PartialEq, Eq)]
@@ -192,6 +204,7 @@ impl World {
             kind: 0,
             request: 0,
             entry: Entry::EMPTY,
+            largest: 0,
         }; CLIENTS],
         messages: [Message {
             kind: 0,
@@ -253,6 +266,11 @@ impl World {
             return Err(Reason::NoNumber);
         }
         Ok(())
+    }
+
+    /// The number that the next message takes, if one is left.
+    pub fn next_number(&self) -> u16 {
+        self.header.used + 1
     }
 
     /// Adds a message under the number after the last used and returns that

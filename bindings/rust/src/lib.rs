@@ -1,26 +1,39 @@
 //! Safe functions over the proved archive register: a world of servers, views,
-//! clients and messages in an image of 21,648 bytes, moved by steps of 12 bytes.
-//! `docs/LAYOUT.md` has every byte of both. The library tests all that it is
+//! clients and messages in an image of 21,712 bytes, moved by steps of 12 bytes.
+//! `docs/LAYOUT.md` has every byte of both, and of all else. The library tests all that it is
 //! given, so no call here has a condition.
 
 mod raw;
 
 /// Bytes of an image, a step, and the records and calls of single machines.
-pub const IMAGE: usize = 21_648;
+pub const IMAGE: usize = 21_712;
 pub const STEP: usize = 12;
 pub const SERVER: usize = 20;
-pub const CLIENT: usize = 16;
+pub const CLIENT: usize = 20;
 pub const ADMINISTRATOR: usize = 4;
 pub const SERVER_CALL: usize = 24;
 pub const CLIENT_CALL: usize = 16;
 pub const ADMINISTRATOR_CALL: usize = 12;
 
-/// Why a call was refused: document 01's number, 1 to 11. A refusal changes no
-/// byte.
+/// Bytes of a line of a log, of its number in an order, of an entry, and of an
+/// answer without a signature.
+pub const LOG_LINE: usize = 20;
+pub const ORDER_LINE: usize = 2;
+pub const ENTRY: usize = 12;
+pub const ANSWER: usize = 16;
+
+/// The lines of a log that is judged and the steps of a journal that is
+/// shortened, at most.
+pub const LOG_LINES: usize = 256;
+pub const SHORTEN_STEPS: usize = 512;
+
+/// Why a call was refused: its number, 1 to 16, as `zemawulo.h` has them. A refusal
+/// changes no byte, but for the fresh world that 15 of `shorten` leaves.
 #[derive(Clone, Copy, Debug, PartialEq, Eq)]
 pub struct Refusal(pub u8);
 
-/// What a replay did, and the refusal that stopped it, if one did.
+/// What a replay did, and the refusal that stopped it, if one did. The steps are
+/// exact below 2^56.
 #[derive(Clone, Copy, Debug, PartialEq, Eq)]
 pub struct Replayed {
     pub steps: u64,
@@ -88,7 +101,8 @@ pub fn server(server: &mut [u8], call: &[u8]) -> Result<bool, Refusal> {
     result(raw::server(server, call)).map(|answers| answers == 1)
 }
 
-/// A client's rule on its record. True if its operation is complete.
+/// A client's rule on its record: it begins, closes a phase or gives up. True if
+/// its operation is complete.
 pub fn client(client: &mut [u8], call: &[u8]) -> Result<bool, Refusal> {
     result(raw::client(client, call)).map(|complete| complete == 1)
 }

@@ -3,7 +3,7 @@
 
 use zemawulo::{
     administrator, client, fresh, premise, quorum, replay, resume, server, step, Refusal, Replayed,
-    IMAGE, STEP,
+    CLIENT, IMAGE, STEP,
 };
 
 fn step_bytes(kind: u8, who: u8, message: u16, value: u32) -> [u8; 12] {
@@ -45,7 +45,7 @@ fn worked_session_step_by_step() {
     let mut completed = Vec::new();
     for bytes in worked() {
         if let Some(number) = step(&mut image, &bytes).unwrap() {
-            let at = 912 + 16 * (usize::from(number) - 1);
+            let at = 912 + CLIENT * (usize::from(number) - 1);
             completed.push((number, image[at + 1], image[at + 4..at + 16].to_vec()));
         }
     }
@@ -201,28 +201,51 @@ fn one_faulty_server() {
     assert_eq!(record, before);
 }
 
+/// A client's record: phase, kind, request, entry, and the largest own count.
+fn record(phase: u8, kind: u8, request: u8, entry: [u8; 12], given: u32) -> Vec<u8> {
+    [&[phase, kind, request, 0][..], &entry, &given.to_le_bytes()].concat()
+}
+
 #[test]
 fn one_client() {
     let none = entry(0, 0, 0);
-    let mut record = vec![0; 16];
+    let mut one = vec![0; CLIENT];
     let write = [&[1, 0, 1, 0][..], &entry(0, 0, 7)].concat();
-    assert_eq!(client(&mut record, &write), Ok(false));
-    assert_eq!(record, [&[1, 1, 1, 0][..], &entry(0, 0, 7)].concat());
-    assert_eq!(client(&mut record, &write), Err(Refusal(4)));
+    assert_eq!(client(&mut one, &write), Ok(false));
+    assert_eq!(one, record(1, 1, 1, entry(0, 0, 7), 0));
+    assert_eq!(client(&mut one, &write), Err(Refusal(4)));
     let close = [&[4, 3, 2, 0][..], &entry(5, 2, 9)].concat();
-    assert_eq!(client(&mut record, &close), Ok(false));
-    assert_eq!(record, [&[2, 1, 2, 0][..], &entry(6, 3, 7)].concat());
-    assert_eq!(client(&mut record, &close), Ok(true));
-    assert_eq!(record, [&[0, 1, 0, 0][..], &entry(6, 3, 7)].concat());
-    assert_eq!(client(&mut record, &close), Err(Refusal(7)));
+    assert_eq!(client(&mut one, &close), Ok(false));
+    assert_eq!(one, record(2, 1, 2, entry(6, 3, 7), 6));
+    assert_eq!(client(&mut one, &close), Ok(true));
+    assert_eq!(one, record(0, 1, 0, entry(6, 3, 7), 6));
+    assert_eq!(client(&mut one, &close), Err(Refusal(7)));
     let read = [&[2, 0, 9, 0][..], &none].concat();
-    assert_eq!(client(&mut record, &read), Ok(false));
+    assert_eq!(client(&mut one, &read), Ok(false));
     let full = [&[4, 3, 2, 0][..], &entry(u32::MAX, 2, 9)].concat();
-    assert_eq!(client(&mut record, &full), Ok(false));
-    let mut writer = [&[1, 1, 1, 0][..], &entry(0, 0, 7)].concat();
+    assert_eq!(client(&mut one, &full), Ok(false));
+    let mut writer = record(1, 1, 1, entry(0, 0, 7), 0);
     assert_eq!(client(&mut writer, &full), Err(Refusal(11)));
     let with_who = [&[2, 1, 9, 0][..], &none].concat();
-    assert_eq!(client(&mut record, &with_who), Err(Refusal(3)));
+    assert_eq!(client(&mut one, &with_who), Err(Refusal(3)));
+}
+
+#[test]
+fn one_client_gives_up() {
+    let none = entry(0, 0, 0);
+    let give_up = [&[8, 0, 0, 0][..], &none].concat();
+    let mut one = record(2, 1, 2, entry(6, 3, 7), 6);
+    assert_eq!(client(&mut one, &[&[8, 3, 0, 0][..], &none].concat()), Err(Refusal(3)));
+    assert_eq!(client(&mut one, &give_up), Ok(false));
+    assert_eq!(one, record(0, 0, 0, none, 6));
+    assert_eq!(client(&mut one, &give_up), Err(Refusal(12)));
+    let write = [&[1, 0, 9, 0][..], &entry(0, 0, 8)].concat();
+    assert_eq!(client(&mut one, &write), Ok(false));
+    let close = [&[4, 3, 11, 0][..], &entry(5, 2, 9)].concat();
+    assert_eq!(client(&mut one, &close), Ok(false));
+    assert_eq!(one, record(2, 1, 11, entry(7, 3, 8), 7));
+    let mut last = record(1, 1, 1, entry(0, 0, 7), u32::MAX);
+    assert_eq!(client(&mut last, &close), Err(Refusal(11)));
 }
 
 #[test]

@@ -1,4 +1,5 @@
--- A run whose order the theorem gives and the checker computes. Assumes nothing.
+-- Runs whose order the theorem gives and the checker computes: with faults and a view change (`example`), with given-up work (`given-up`).
+-- Assumes nothing.
 use Prim.Native.Nat.{ℕ}
 use mathlib.Core.Bool.{true}
 use mathlib.Core.Path.{_≡_, refl}
@@ -8,7 +9,7 @@ use Rattle.protocol.specs.Entries.{entry, same}
 use Rattle.protocol.specs.Clients.{WRITES, READS}
 use Rattle.protocol.specs.Worlds.{fresh, premise}
 use Rattle.protocol.specs.Laws.Worlds.{content, sent}
-use Rattle.protocol.specs.Sessions.{write, read, deliver-to, take-one, fault-of, false-answer, new-view, begun, run-of, operations-of, premise-after, stop-of, stops, operated}
+use Rattle.protocol.specs.Sessions.{write, read, deliver-to, take-one, fault-of, false-answer, new-view, given-up, begun, run-of, operations-of, premise-after, stop-of, stops, operated}
 use Rattle.protocol.specs.Runs.{runFrom}
 use Rattle.agreement.specs.Sorting.{filter, sort}
 use Rattle.agreement.specs.Precedence.{compared}
@@ -75,3 +76,19 @@ example-order : linearizable 15 1 (begun 15 1) begins-four example example-premi
     ≡ (operated WRITES 2 14 (entry 1 1 7) ∷ operated READS 15 27 (entry 1 1 7) ∷ operated WRITES 39 0 (entry 2 4 9) ∷ operated READS 38 60 (entry 2 4 9) ∷ [])
 unfolding operations-of example linearizable order stands filter sort compared any same sent content
 example-order = refl
+
+-- ---- given-up work: server 1 alone, f 0
+
+begins-one : fresh 1 0 ≡ done (begun 1 0)
+unfolding fresh run-of
+begins-one = refl
+
+given-up-premise : premise (runFrom (begun 1 0) given-up .world) ≡ true
+unfolding premise-after given-up
+given-up-premise = refl
+
+-- the theorem's order: the write of 8, given up, stands before the read that returned its entry; that of 6 stands nowhere
+given-up-order : linearizable 1 0 (begun 1 0) begins-one given-up given-up-premise .order
+    ≡ (operated WRITES 3 0 (entry 1 1 8) ∷ operated READS 12 16 (entry 1 1 8) ∷ operated WRITES 7 18 (entry 2 1 9) ∷ [])
+unfolding operations-of given-up linearizable order stands filter sort compared any same sent content
+given-up-order = refl

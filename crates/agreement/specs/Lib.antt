@@ -7,6 +7,7 @@ pub mod Story
 pub mod Reached
 pub mod Sorting
 pub mod Precedence
+pub mod Stamps
 pub mod Legal
 pub mod Order
 pub mod Theorem

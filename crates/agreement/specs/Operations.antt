@@ -2,17 +2,20 @@
 use Prim.Native.Nat.{ℕ, _+_, _≤_, _<_}
 use native.Mathlib.Nat.{le-refl}
 use native.Mathlib.Omega.{arith}
-use mathlib.Core.Bool.{false}
+use mathlib.Core.Bool.{Bool, true, false}
 use mathlib.Core.Path.{_≡_, refl, ap, subst, _∙_}
 use mathlib.Core.Logic.{_⊎_}
 use mathlib.Core.List.{List}
-use borrow.Author.Tests.{eqb-false, eq-eqb}
+use lib.Dec.{ltb, eqb}
+use borrow.Author.Tests.{eqb-false, eq-eqb, ltb-true, ltb-false}
+use Rattle.protocol.specs.declared.StampCount.{StampCount}
 use Rattle.protocol.specs.declared.Entry.{Entry}
 use Rattle.protocol.specs.declared.Client.{Client}
 use Rattle.protocol.specs.declared.Phase.the-variants.{Reading, Writing}
+use Rattle.protocol.specs.Tools.{if}
 use Rattle.protocol.specs.Entries.{entry, countOf, writerOf}
 use Rattle.protocol.specs.Servers.{WRITE, END}
-use Rattle.protocol.specs.Clients.{WRITES, READS, number, isIdle, toWrite}
+use Rattle.protocol.specs.Clients.{WRITES, READS, number, isIdle, nextCount, toWrite, givenBy}
 use Rattle.protocol.specs.Worlds.{World, client, newest}
 use Rattle.protocol.specs.Consistent.{In}
 use Rattle.protocol.specs.Runs.{Tracked}
@@ -49,6 +52,11 @@ pub data Open (w : World) (who read write : ℕ) : Type 0 where
   reading : client w who .phase ≡ Reading (number read) → write ≡ 0 → Open w who read write
   writing : client w who .phase ≡ Writing (number write) → 1 ≤ write → client w who .entry ≡ sent w write .entry → Open w who read write
 
+-- a write operation whose WRITE is sent
+pub record Own (o : Tracked) : Type 0 where
+  pub write : o .kind ≡ WRITES
+  pub sent : 1 ≤ o .write
+
 pub record Fits (w : World) (place : ℕ) (l : List Tracked) (o : Tracked) : Type 0 where
   pub low : 1 ≤ o .client
   pub kind : (o .kind ≡ WRITES) ⊎ (o .kind ≡ READS)
@@ -57,15 +65,18 @@ pub record Fits (w : World) (place : ℕ) (l : List Tracked) (o : Tracked) : Typ
   pub ends : o .end < place
   pub spans : 1 ≤ o .end → o .begin < o .end
   pub wrote : 1 ≤ o .write → Wrote w (o .client) (o .kind) (o .read) (o .write)
-  pub phase : o .end ≡ 0 → Open w (o .client) (o .read) (o .write)
-  pub alike : o .end ≡ 0 → client w (o .client) .kind ≡ o .kind
+  pub phase : o .active ≡ true → Open w (o .client) (o .read) (o .write)
+  pub alike : o .active ≡ true → client w (o .client) .kind ≡ o .kind
+  pub going : o .active ≡ true → o .end ≡ 0
+  pub given : Own o → countOf (sent w (o .write) .entry) ≤ client w (o .client) .given .0
   pub done : 1 ≤ o .end → Done w l o
 
--- operations in the order of their beginning; those of one client do not overlap
-pub record Earlier (a b : Tracked) : Type 0 where
+-- operations in the order of their beginning; of one client's the earlier is over, and the later write has the larger count
+pub record Earlier (w : World) (a b : Tracked) : Type 0 where
   pub read : a .read < b .read
   pub begin : a .begin < b .begin
-  pub ended : a .client ≡ b .client → (1 ≤ a .end) × (a .end < b .begin)
+  pub over : a .client ≡ b .client → a .active ≡ false
+  pub counts : a .client ≡ b .client → Own a → Own b → countOf (sent w (a .write) .entry) < countOf (sent w (b .write) .entry)
 
 -- an operation of the list of which P holds
 pub record Some (l : List Tracked) (P : Tracked → Type 0) : Type 0 where
@@ -75,8 +86,8 @@ pub record Some (l : List Tracked) (P : Tracked → Type 0) : Type 0 where
 
 pub record Story (w : World) (place : ℕ) (l : List Tracked) : Type 0 where
   pub fits : (o : Tracked) → In o l → Fits w place l o
-  pub order : Rising Earlier l
-  pub opener : (c : ℕ) → 1 ≤ c → isIdle (client w c .phase) ≡ false → Some l (λ o. (o .client ≡ c) × (o .end ≡ 0))
+  pub order : Rising (Earlier w) l
+  pub opener : (c : ℕ) → 1 ≤ c → isIdle (client w c .phase) ≡ false → Some l (λ o. (o .client ≡ c) × (o .active ≡ true))
   pub writer : (j : ℕ) → 1 ≤ j → j ≤ w .used → sent w j .kind ≡ WRITE → Some l (λ o. o .write ≡ j)
 
 -- ---- what a client writes
@@ -85,9 +96,30 @@ toWrite-read : (a : Client) (i : ℕ) (e : Entry) → a .kind ≡ READS → toWr
 unfolding toWrite
 toWrite-read a i e k = rw k refl
 
-toWrite-write : (a : Client) (i : ℕ) (e : Entry) → a .kind ≡ WRITES → toWrite a i e ≡ entry (countOf e + 1) i (a .entry .value)
+toWrite-write : (a : Client) (i : ℕ) (e : Entry) → a .kind ≡ WRITES → toWrite a i e ≡ entry (nextCount a e) i (a .entry .value)
 unfolding toWrite
 toWrite-write a i e k = rw (eq-eqb _ _ k) refl
+
+givenBy-write : (a : Client) (e : Entry) → a .kind ≡ WRITES → givenBy a e .0 ≡ nextCount a e
+unfolding givenBy
+givenBy-write a e k = rw (eq-eqb _ _ k) refl
+
+-- "one above the larger of the count read and the largest this client ever gave"
+nextCount-above : (a : Client) (e : Entry) → (countOf e < nextCount a e) × (a .given .0 < nextCount a e)
+unfolding nextCount
+nextCount-above a e = go (ltb (countOf e) (a .given .0)) refl
+  where
+    go : (b : Bool) → ltb (countOf e) (a .given .0) ≡ b → (countOf e < if b (a .given .0) (countOf e) + 1) × (a .given .0 < if b (a .given .0) (countOf e) + 1)
+    go true q = let l = ltb-true (countOf e) (a .given .0) q in (omega (arith, l), omega arith)
+    go false q = let l = ltb-false (countOf e) (a .given .0) q in (omega arith, omega (arith, l))
+
+pub givenBy-grows : (a : Client) (e : Entry) → a .given .0 ≤ givenBy a e .0
+unfolding givenBy
+givenBy-grows a e = go (eqb (a .kind) WRITES)
+  where
+    go : (b : Bool) → a .given .0 ≤ (if b (record { 0 = nextCount a e }) (a .given)) .0
+    go true = omega (arith, nextCount-above a e .1)
+    go false = le-refl _
 
 -- ---- what is known of an operation stays
 
@@ -161,9 +193,17 @@ module _ {w v : World} (c : Change w v) (n : Inv w) where
         seen = read-new x (omega (arith, y .low, x .chosen .tag)) (omega (arith, y .high, x .chosen .tag));
         origin = later-origin (omega (arith, x .chosen .below)) (origin-on (x .chosen .below) (subst (Origin w (x .chosen .at)) (x .chosen .entry) (n .shown (x .chosen .at) (x .chosen .below) (x .chosen .is))));
         back = λ z. x .carries ∙ toWrite-read (client w i) i (x .entry) (t ∙ z);
-        above = λ z. rw (x .carries ∙ toWrite-write (client w i) i (x .entry) (t ∙ z)) (omega arith);
+        above = λ z. rw (x .carries ∙ toWrite-write (client w i) i (x .entry) (t ∙ z)) (nextCount-above (client w i) (x .entry) .0);
         own = λ z. ap writerOf (x .carries ∙ toWrite-write (client w i) i (x .entry) (t ∙ z));
       }
+
+  -- the count that a write of its own gives is above all that its client gave, and is then the largest
+  pub given-new : {i r : ℕ} (x : Closed w v i r) → client w i .kind ≡ WRITES
+      → (client w i .given .0 < countOf (sent v (v .used) .entry)) × (countOf (sent v (v .used) .entry) ≤ client v i .given .0)
+  given-new {i} x k =
+      let e : countOf (sent v (v .used) .entry) ≡ nextCount (client w i) (x .entry) = ap countOf (x .carries ∙ toWrite-write (client w i) i (x .entry) k) in
+      let g : client v i .given .0 ≡ nextCount (client w i) (x .entry) = ap (λ (n : StampCount). n .0) (x .given) ∙ givenBy-write (client w i) (x .entry) k in
+      (rw e (nextCount-above (client w i) (x .entry) .1), omega (arith, e, g))
 
   -- a WRITE phase closed
   pub held-new : {r : ℕ} → Kept w r → r ≤ w .used → sent w r .kind ≡ WRITE → Held v (sent w r .entry) (v .used)

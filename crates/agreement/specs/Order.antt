@@ -26,6 +26,7 @@ use Rattle.agreement.specs.Invariants.{Origin, blank, from}
 use Rattle.agreement.specs.Carried.{Trusted, Read, sees}
 use Rattle.agreement.specs.Operations.{Wrote, Fits, Earlier, Some, Story}
 use Rattle.agreement.specs.Precedence.{_≺_, count, writer, Level, ≺-not, Key, Precedes, by-stamp, by-kind, by-read, precedes-trans, precedes-self, compared, precedes-≼, precedes-≺}
+use Rattle.agreement.specs.Stamps.{unique, entry-done, entry-open}
 use Rattle.agreement.specs.Legal.{Stand, Source, held, Asks, legal, equal-reads}
 
 -- entries that agree in every field are one
@@ -167,10 +168,10 @@ module _ {w : World} {place : ℕ} {l : List Tracked} (t : Trusted w) (s : Story
   unfolding order
   sorted = sort-sorted _ _ _ (λ x y z. precedes-trans) (filter stands l) (filter-rising stands l (apart (s .order)))
     where
-      differ : {x y : Tracked} → Earlier x y → x .read ≢ y .read
+      differ : {x y : Tracked} → Earlier w x y → x .read ≢ y .read
       differ h e = omega (arith, h .read)
 
-      apart : {k : List Tracked} → Rising Earlier k → Rising (λ x y. x .read ≢ y .read) k
+      apart : {k : List Tracked} → Rising (Earlier w) k → Rising (λ x y. x .read ≢ y .read) k
       apart Rising.empty = Rising.empty
       apart (next h r) = next (λ y i. differ (h y i)) (apart r)
 
@@ -199,22 +200,6 @@ module _ {w : World} {place : ℕ} {l : List Tracked} (t : Trusted w) (s : Story
 
   abbrev Sent : Tracked → Type 0
   Sent o = Wrote w (o .client) (o .kind) (o .read) (o .write)
-
-  -- L3: no stamp is given twice
-  unique : (a b : Tracked) → In a l → In b l → Sent a → Sent b → a .kind ≡ WRITES → b .kind ≡ WRITES → Level (shows a) (shows b) → a ≡ b
-  unique a b i j g h p q v = go (related (s .order) i j)
-    where
-      -- one client's later write has a larger count
-      grows : (x y : Tracked) → In x l → In y l → (k : Sent y) → y .kind ≡ WRITES → x .client ≡ y .client → Earlier x y → countOf (shows x) < countOf (shows y)
-      grows x y i j k q c e = let (d, f) = e .ended c in omega (arith, ≼-count (sees-later x y i j d f k), k .above q)
-
-      client : a .client ≡ b .client
-      client = sym (g .own p) ∙ v .writer ∙ h .own q
-
-      go : Related Earlier a b → a ≡ b
-      go (before e) = absurd (omega (arith, grows a b i j h q client e, v .count))
-      go (after e) = absurd (omega (arith, grows b a j i g p (sym client) e, v .count))
-      go (equal e) = e
 
   -- W12: an entry is empty or that of a write operation
   data Written (e : Entry) : Type 0 where
@@ -256,22 +241,14 @@ module _ {w : World} {place : ℕ} {l : List Tracked} (t : Trusted w) (s : Story
   sent-of : {o : Tracked} → In o order → Sent o
   sent-of {o} i = let d = stood i in s .fits o (d .member) .wrote (d .write)
 
-  entry-done : (o : Tracked) → In o l → 1 ≤ o .end → entryOf w o ≡ some (shows o)
-  unfolding entryOf
-  entry-done o i h = rw (ne-eqb (o .end) 0 (λ e. omega arith)) (ap some (s .fits o i .done h .entry))
-
-  entry-open : (o : Tracked) → o .end ≡ 0 → o .kind ≡ WRITES → 1 ≤ o .write → entryOf w o ≡ some (shows o)
-  unfolding entryOf sent content
-  entry-open o h k g = rw (eq-eqb (o .end) 0 h, eq-eqb (o .kind) WRITES k, lt-ltb 0 (o .write) g) refl
-
   entry-of : {o : Tracked} → In o order → entryOf w o ≡ some (shows o)
   unfolding stands
   entry-of {o} i = let d = stood i in go d (or-cases _ _ (d .test)) (ℕ-discrete (o .end) 0)
     where
       go : Stood o → (not (unfinished o) ≡ true) ⊎ ((eqb (o .kind) WRITES && (ltb 0 (o .write) && returned o)) ≡ true) → Dec (o .end ≡ 0) → entryOf w o ≡ some (shows o)
-      go d (inl e) z = entry-done o (d .member) (finished o e)
-      go d (inr e) (yes z) = entry-open o z (eqb-true _ _ (and-left _ _ e)) (d .write)
-      go d (inr e) (no z) = entry-done o (d .member) (omega arith)
+      go d (inl e) z = entry-done s o (d .member) (finished o e)
+      go d (inr e) (yes z) = entry-open s o z (eqb-true _ _ (and-left _ _ e)) (d .write)
+      go d (inr e) (no z) = entry-done s o (d .member) (omega arith)
 
   abbrev op : Tracked → Operation
   op = operation w
@@ -302,7 +279,8 @@ module _ {w : World} {place : ℕ} {l : List Tracked} (t : Trusted w) (s : Story
       record {
         stand = stand-of;
         above = λ x i k. count (omega (arith, sent-of i .above k));
-        unique = λ x y i j p q. unique x y (stood i .member) (stood j .member) (sent-of i) (sent-of j) p q;
+        unique = λ x y i j p q.
+            unique s x y (stood i .member) (stood j .member) (record { write = p; sent = stood i .write }) (record { write = q; sent = stood j .write });
         source = λ x i k. go x i k (written _ (omega (arith, sent-of i .below)) (sent-of i .origin));
       }
     where
@@ -352,7 +330,7 @@ module _ {w : World} {place : ℕ} {l : List Tracked} (t : Trusted w) (s : Story
             held = map-in op l (r .member);
             read = op-kind x ∙ eqb-true _ _ (and-left _ _ k);
             completed = rw (op-end x) f;
-            same = op-entry x ∙ entry-done x (r .member) f ∙ ap some (same-is _ _ (and-right (eqb (x .kind) READS) _ k)) ∙ sym (entry-of i) ∙ sym (op-entry o);
+            same = op-entry x ∙ entry-done s x (r .member) f ∙ ap some (same-is _ _ (and-right (eqb (x .kind) READS) _ k)) ∙ sym (entry-of i) ∙ sym (op-entry o);
           })
 
   -- in the history, and standing, so in the order
@@ -382,7 +360,7 @@ module _ {w : World} {place : ℕ} {l : List Tracked} (t : Trusted w) (s : Story
           f = omega (arith, r .completed, ap (λ (y : Operation). y .end) q, op-end x)
 
           shown : some (shows x) ≡ entryOf w o
-          shown = sym (entry-done x j f) ∙ sym (op-entry x) ∙ ap (λ (y : Operation). y .entry) q ∙ r .same ∙ op-entry o
+          shown = sym (entry-done s x j f) ∙ sym (op-entry x) ∙ ap (λ (y : Operation). y .entry) q ∙ r .same ∙ op-entry o
 
           at : Dec (o .write ≡ 0) → In o order
           at (yes z) =
@@ -392,7 +370,7 @@ module _ {w : World} {place : ℕ} {l : List Tracked} (t : Trusted w) (s : Story
           at (no z) =
               let p : 1 ≤ o .write = omega arith in
               let c = sym (op-kind o) ∙ k in
-              stand-in i (write-stands o x i j c p f (sym (op-kind x) ∙ ap (λ (y : Operation). y .kind) q ∙ r .read) (some-is (shown ∙ entry-open o (sym (op-end o) ∙ e) c p)))
+              stand-in i (write-stands o x i j c p f (sym (op-kind x) ∙ ap (λ (y : Operation). y .kind) q ∙ r .read) (some-is (shown ∙ entry-open s o (sym (op-end o) ∙ e) c p)))
 
   members : (x : Operation) → In x (map op order) ↔ (In x h × Stands h x)
   members x = (there, back)
@@ -426,7 +404,7 @@ module _ {w : World} {place : ℕ} {l : List Tracked} (t : Trusted w) (s : Story
       span : a .begin < a .end
       span = fa .spans e
 
-      reads : shows a ≼ shows b → b .kind ≡ READS → (a .kind ≡ WRITES) ⊎ (a .kind ≡ READS) → Precedes (key b) (key a) → Related Earlier a b → ⊥
+      reads : shows a ≼ shows b → b .kind ≡ READS → (a .kind ≡ WRITES) ⊎ (a .kind ≡ READS) → Precedes (key b) (key a) → Related (Earlier w) a b → ⊥
       reads x k d (by-stamp h) r = ≺-not h x
       reads x k (inl q) (by-kind l h) r = omega arith
       reads x k (inr q) (by-kind l h) r = omega arith
@@ -497,7 +475,7 @@ module _ {w : World} {place : ℕ} {l : List Tracked} (t : Trusted w) (s : Story
           same-begin : x .begin ≡ y .begin
           same-begin = sym (op-begin x) ∙ ap (λ (o : Operation). o .begin) e ∙ op-begin y
 
-          go : Related Earlier x y → ⊥
+          go : Related (Earlier w) x y → ⊥
           go (before d) = omega (arith, d .begin, same-begin)
           go (after d) = omega (arith, d .begin, same-begin)
           go (equal d) = precedes-self (subst (λ (o : Tracked). Precedes (key o) (key y)) d r)

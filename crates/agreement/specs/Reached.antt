@@ -132,7 +132,7 @@ pub record Reached (r : Run) : Type 0 where
 later-place : {w : World} {p : ℕ} {l : List Tracked} → Story w p l → Story w (p + 1) l
 later-place s =
     record {
-      fits = λ o i. let a = s .fits o i in record { low = a .low; kind = a .kind; read = a .read; began = omega (arith, a .began); ends = omega (arith, a .ends); spans = a .spans; wrote = a .wrote; phase = a .phase; alike = a .alike; done = a .done };
+      fits = λ o i. let a = s .fits o i in record { low = a .low; kind = a .kind; read = a .read; began = omega (arith, a .began); ends = omega (arith, a .ends); spans = a .spans; wrote = a .wrote; phase = a .phase; alike = a .alike; going = a .going; given = a .given; done = a .done };
       order = s .order;
       opener = s .opener;
       writer = s .writer;
@@ -143,7 +143,7 @@ newly : (w v : World) (place : ℕ) (st : Step) → ((eqb (st .kind) WRITES || e
 newly w v place st h = go (eqb (st .kind) WRITES || eqb (st .kind) READS) refl
   where
     one : Tracked
-    one = record { client = st .who; kind = st .kind; begin = place; end = 0; read = v .used; write = 0; entry = empty }
+    one = record { client = st .who; kind = st .kind; begin = place; end = 0; active = true; read = v .used; write = 0; entry = empty }
 
     kinds : (eqb (st .kind) WRITES ≡ true) ⊎ (eqb (st .kind) READS ≡ true) → (st .kind ≡ WRITES) ⊎ (st .kind ≡ READS)
     kinds (inl e) = inl (eqb-true _ _ e)
@@ -152,7 +152,7 @@ newly w v place st h = go (eqb (st .kind) WRITES || eqb (st .kind) READS) refl
     go : (b : Bool) → (eqb (st .kind) WRITES || eqb (st .kind) READS) ≡ b → Newly w v place (if b (st .who) 0) (st .kind) (if b (one ∷ []) [])
     go true e =
         record {
-          fresh = λ o i. subst (Fresh w v place (st .who) (st .kind)) (only o i) (record { client = refl; low = h e; kinds = kinds (or-cases _ _ e); same = refl; begin = refl; end = refl; read = refl; write = refl });
+          fresh = λ o i. subst (Fresh w v place (st .who) (st .kind)) (only o i) (record { client = refl; low = h e; kinds = kinds (or-cases _ _ e); same = refl; begin = refl; end = refl; active = refl; read = refl; write = refl });
           some = λ _. record { of = one; member = here refl; has = tt };
           order = next (λ y i. no-member i) nobody;
         }

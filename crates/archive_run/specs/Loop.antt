@@ -1,4 +1,5 @@
--- What the program's loop does: the steps that it counts, where it stops, and that it ends. Assumes nothing.
+-- What the program's loop does: the steps that it counts (`Led`), where it stops (`Stops`), and what a turn says of it (`Says`). Used by
+-- the contracts of the program's loop. Assumes nothing.
 use Prim.Native.Nat.{ℕ, _+_, _-_, _≤_, _<_}
 use native.Mathlib.Omega.{arith}
 use mathlib.Core.Path.{_≡_, refl, sym, ap, subst, _∙_}
@@ -7,8 +8,6 @@ use Rattle.protocol.specs.Tools.{Result, refused, done, passed}
 use Rattle.protocol.specs.Steps.{After}
 use Rattle.protocol.specs.Runs.{stepOf}
 use Rattle.preservation.specs.Kept.{step-kept}
-use Rattle.bounds.specs.Progress.{progress, limit}
-use Rattle.bounds.specs.Theorem.{moves, bounded}
 use Rattle.codec.specs.Images.{encode, decode}
 use Rattle.image.specs.Readable.{world-decode}
 use Rattle.image.specs.Steps.{stepOn, leftBy}
@@ -32,7 +31,7 @@ pub data Led (l : List ℕ) : ℕ → List ℕ → Type 0 where
   none : Led l 0 l
   more : {n : ℕ} {m l′ : List ℕ} → Led l n m → Accepted m l′ → Led l (n + 1) l′
 
--- "refusal of the stop or 0": on the image l the input ended, or a record was refused
+-- "refusal of the stop or 0": on the image l the input or the turns ended, or a record was refused
 pub data Stops (l : List ℕ) : ℕ → Type 0 where
   ended : Stops l 0
   refuses : {n : ℕ} (b : List ℕ) → stepOn l b ≡ refused n → Stops l n
@@ -63,35 +62,17 @@ says-more l l′ b r k w e q = go (stepOn l b) refl (ap turned (sym w) ∙ e) q
 
 -- ---- the loop
 
--- how far the world of an image has come
-unfoldable pub reach : List ℕ → ℕ
-reach l = progress (decode l)
-
--- an accepted record brings it further
-accepted-on : {l l′ : List ℕ} → Legible l → Accepted l l′ → Legible l′ × (reach l < reach l′)
-unfolding reach stepOn
+-- an accepted record leaves a readable image
+accepted-on : {l l′ : List ℕ} → Legible l → Accepted l l′ → Legible l′
+unfolding stepOn
 accepted-on {l} {l′} h t =
     let (p, f) = passed _ _ _ _ (t .step) in
     let (o, g) = passed _ _ _ _ f in
-    let k = step-kept (decode l) (h .formed) (stepOf (t .bytes)) (t .after) g in
-    let d : decode l′ ≡ t .after .world = ap decode (t .image) ∙ world-decode (t .after .world) k in
-    (spelled (t .after .world) k l′ (t .image), rw d (moves (decode l) (h .formed) (stepOf (t .bytes)) (t .after) g))
+    spelled (t .after .world) (step-kept (decode l) (h .formed) (stepOf (t .bytes)) (t .after) g) l′ (t .image)
 
--- so no more are accepted than the world has come far, which has a limit
-pub led-on : {l m : List ℕ} {n : ℕ} → Legible l → Led l n m → Legible m × (n ≤ reach m)
-led-on h none = (h, omega arith)
-led-on h (more p a) = let (k, c) = led-on h p in let (j, d) = accepted-on k a in (j, omega arith)
-
-pub led-bounded : {l m : List ℕ} {n : ℕ} → Legible l → Led l n m → n ≤ limit
-unfolding reach
-led-bounded {m} h p = let (k, c) = led-on h p in omega (arith, bounded (decode m) (k .formed))
-
--- a turn that goes on leaves less
-pub goes-on : (r : Onward) (l l′ : List ℕ) → Legible l → r ≡ More → Says r l l′ → limit - reach l′ < limit - reach l
-unfolding reach
-goes-on r l l′ h e s =
-    let (k, d) = accepted-on h (subst (λ (x : Onward). Says x l l′) e s) in
-    omega (arith, bounded (decode l′) (k .formed))
+pub led-on : {l m : List ℕ} {n : ℕ} → Legible l → Led l n m → Legible m
+led-on h none = h
+led-on h (more p a) = accepted-on (led-on h p) a
 
 pub counted : (r : Onward) (l m l′ : List ℕ) (n : ℕ) → Led l n m → r ≡ More → Says r m l′ → Led l (n + 1) l′
 counted r l m l′ n h e s = more h (subst (λ (x : Onward). Says x m l′) e s)

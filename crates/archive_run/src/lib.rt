@@ -21,7 +21,7 @@ enum Onward {
 
 // What the last line tells: the steps accepted, and the refusal of the stop or 0.
 struct Ended {
-    steps: u32,
+    steps: u64,
     refusal: u8,
 }
 
@@ -31,7 +31,7 @@ fn print(line: &[u8], n: usize) {
     }
 }
 
-fn finish(steps: u32, refusal: u8) {
+fn finish(steps: u64, refusal: u8) {
     let mut line = [0u8; LINE];
     let n = done_line(&mut line, steps, refusal);
     print(&line, n);
@@ -58,14 +58,16 @@ fn next(image: &mut [u8]) -> Onward
     }
 }
 
-// Turns until one stops. No count of turns can cut the input short: each turn that goes on brings the world further, and none
-// comes further than 3,102, so the loop ends.
+// The most turns, 2^64 - 1: at a record each nanosecond they last 584 years.
+const TURNS: u64 = 18446744073709551615;
+
+// Turns until one stops.
 fn steps(image: &mut [u8]) -> Ended
     requires { ⌜ Legible (now image) ⌝ }
     ensures { λ r. ⌜ Led (now (image .entry)) (r .steps) (now (image .exit)) × Stops (now (image .exit)) (r .refusal) ⌝ }
 {
-    let mut k = 0u32;
-    loop {
+    let mut k = 0u64;
+    while k < TURNS {
         if let Onward::Stop(refusal) = next(image) {
             return Ended {
                 steps: k,
@@ -73,6 +75,10 @@ fn steps(image: &mut [u8]) -> Ended
             };
         }
         k += 1;
+    }
+    Ended {
+        steps: k,
+        refusal: 0,
     }
 }
 

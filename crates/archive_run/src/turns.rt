@@ -6,6 +6,7 @@ ghost use Rattle.codec.specs.Layout.{imageSize};
 ghost use Rattle.codec.specs.Lists.{put};
 ghost use Rattle.image.specs.Steps.{stepOn, leftBy};
 ghost use Rattle.world.specs.Images.{Legible};
+ghost use Rattle.lines.specs.Lines.{lineWidth};
 ghost use Rattle.archive_run.specs.Turns.{firstFits, firstOn, lineOn, turned, measured, lineAfter};
 use codec::layout::STEP;
 use codec::places::load_client;
@@ -61,7 +62,7 @@ pub fn first(image: &mut [u8], bytes: &[u8]) -> u8
 
 // The line of the operation that client c completed, from its record in the image; none for no client.
 fn completed(image: &[u8], c: u8, out: &mut [u8]) -> usize
-    requires { ⌜ (length (now image) ≡ imageSize) × (48 ≤ length (now out)) ⌝ }
+    requires { ⌜ (length (now image) ≡ imageSize) × (lineWidth ≤ length (now out)) ⌝ }
     ensures { λ r. ⌜ (r ≡ length (lineOn (now (image .entry)) c)) × (now (out .exit) ≡ put (now (out .entry)) 0 (lineOn (now (image .entry)) c)) ⌝ }
 {
     if c < 1 {
@@ -76,7 +77,7 @@ fn completed(image: &[u8], c: u8, out: &mut [u8]) -> usize
 
 // One step on a readable image, which stays readable, and the line of the operation that it completed.
 pub fn turn(image: &mut [u8], bytes: &[u8], out: &mut [u8]) -> Moved
-    requires { ⌜ Legible (now image) × (48 ≤ length (now out)) ⌝ }
+    requires { ⌜ Legible (now image) × (lineWidth ≤ length (now out)) ⌝ }
     ensures { λ r. ⌜ (turned r ≡ measured (stepOn (now (image .entry)) (now (bytes .entry)))) × (now (image .exit) ≡ leftBy (now (image .entry)) (stepOn (now (image .entry)) (now (bytes .entry)))) × (now (out .exit) ≡ put (now (out .entry)) 0 (lineAfter (stepOn (now (image .entry)) (now (bytes .entry))))) ⌝ }
     ensures { λ _. ⌜ Legible (now (image .exit)) ⌝ }
 {

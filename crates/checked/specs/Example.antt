@@ -8,7 +8,8 @@ use Rattle.protocol.specs.Tools.{countTo, holds, bitOf, Result, refused, done, 
 use Rattle.protocol.specs.Sizes.{quorum, size, sized, writeSize, viewWith}
 use Rattle.protocol.specs.Entries.{entry, empty, below, larger, same, entryFits}
 use Rattle.protocol.specs.Servers.{READ, WRITE, END, START, ANSWER, Reply, keeping, withoutKey, joining, serve}
-use Rattle.protocol.specs.Clients.{NONE, WRITES, number, begin, toWrite, countLeft, close, call, advance}
+use Rattle.protocol.specs.Readable.{clientRange}
+use Rattle.protocol.specs.Clients.{NONE, WRITES, number, begin, nextCount, toWrite, givenBy, countLeft, close, call, advance}
 use Rattle.values.specs.Bits.{bitIn}
 use Rattle.values.specs.Tallies.{firstAnswer, closesAt}
 use Rattle.checked.specs.Ranges.{numberFits, serverInRange, messageInRange, clientInRange, endFits, administratorInRange}
@@ -17,8 +18,8 @@ use Rattle.checked.specs.Rules.{serveRule, writeRule, takeRule, closeRul
 server : ℕ → ℕ → Entry → Server
 server t keys e = record { view = record { 0 = t }; faulty = false; keys = record { 0 = keys }; entry = e }
 
-client : Phase → ℕ → Entry → Client
-client p kind e = record { phase = p; kind = kind; entry = e }
+client : Phase → ℕ → Entry → ℕ → Client
+client p kind e given = record { phase = p; kind = kind; entry = e; given = record { 0 = given } }
 
 administrator : ℕ → Administrator
 administrator t = record { newest = record { 0 = t }; ending = Settled }
@@ -42,8 +43,8 @@ silent : Server → Result Reply
 silent a = done (record { server = a; answer = none })
 
 -- client 1 writes 7
-write-begins : writeRule (client Idle NONE empty) 7 1 ≡ done (client (Reading (number 1)) WRITES (entry 0 0 7))
-unfolding client writeRule guard clientInRange entryFits same numberFits begin
+write-begins : writeRule (client Idle NONE empty 0) 7 1 ≡ done (client (Reading (number 1)) WRITES (entry 0 0 7) 0)
+unfolding client writeRule guard clientInRange clientRange entryFits same numberFits begin
 write-begins = refl
 
 read-served : serveRule (server 1 1 empty) (request READ 1 0 empty) false ≡ answers (server 1 1 empty) 1 empty
@@ -63,18 +64,18 @@ read-closes : closesAt (firstAnswer (answer 1 1 1 empty)) (writeSize (viewWith 1
 unfolding answer closesAt firstAnswer bitIn bitOf holds countTo writeSize quorum size
 read-closes = refl
 
-write-next : closeRule (client (Reading (number 1)) WRITES (entry 0 0 7)) 1 empty 3
-    ≡ done (record { client = client (Writing (number 3)) WRITES (entry 1 1 7); complete = false })
-unfolding client closeRule guard clientInRange entryFits numberFits close countLeft toWrite
+write-next : closeRule (client (Reading (number 1)) WRITES (entry 0 0 7) 0) 1 empty 3
+    ≡ done (record { client = client (Writing (number 3)) WRITES (entry 1 1 7) 1; complete = false })
+unfolding client closeRule guard clientInRange clientRange entryFits numberFits close countLeft nextCount toWrite givenBy
 write-next = refl
 
 write-served : serveRule (server 1 1 empty) (request WRITE 1 0 (entry 1 1 7)) false ≡ answers (server 1 1 (entry 1 1 7)) 1 (entry 1 1 7)
 unfolding server request answers serveRule guard serverInRange messageInRange entryFits same bitOf serve holds keeping larger below
 write-served = refl
 
-write-complete : closeRule (client (Writing (number 3)) WRITES (entry 1 1 7)) 1 (entry 1 1 7) 5
-    ≡ done (record { client = client Idle WRITES (entry 1 1 7); complete = true })
-unfolding client closeRule guard clientInRange entryFits numberFits close
+write-complete : closeRule (client (Writing (number 3)) WRITES (entry 1 1 7) 1) 1 (entry 1 1 7) 5
+    ≡ done (record { client = client Idle WRITES (entry 1 1 7) 1; complete = true })
+unfolding client closeRule guard clientInRange clientRange entryFits numberFits close
 write-complete = refl
 
 -- view 2 is called

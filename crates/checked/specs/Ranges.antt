@@ -11,7 +11,8 @@ use Rattle.protocol.specs.Sizes.{views, messages}
 use Rattle.protocol.specs.Entries.{entryFits}
 use Rattle.protocol.specs.Servers.{READ, WRITE, ANSWER}
 use Rattle.protocol.specs.Clients.{isEnding}
-use Rattle.protocol.specs.Readable.{senderFits, serverRule, idleRule, kindRule, readingRule, tagRule, messageRule}
+use Rattle.protocol.specs.Readable.{senderFits, clientRange}
+use Rattle.protocol.specs.Readable.{serverRule, idleRule, kindRule, readingRule, tagRule, messageRule}
 
 -- "messages 1 to 1,023"
 unfoldable pub numberFits : ℕ → Bool
@@ -31,7 +32,7 @@ phaseInRange c (Reading r) = readingRule c (numberFits (r .0))
 phaseInRange c (Writing r) = kindRule (c .kind) && numberFits (r .0)
 
 unfoldable pub clientInRange : Client → Bool
-clientInRange c = entryFits (c .entry) && phaseInRange c (c .phase)
+clientInRange c = clientRange c && phaseInRange c (c .phase)
 
 -- "while ending, newest is below 32"
 unfoldable pub endFits : ℕ → ℕ → Bool

@@ -7,7 +7,7 @@ use Rattle.protocol.specs.Tools.{within, Result, done, guard}
 use Rattle.protocol.specs.Sizes.{clients, views, messages}
 use Rattle.protocol.specs.Entries.{entryFits}
 use Rattle.protocol.specs.Servers.{ANSWER, Reply, serve, mayAnswer}
-use Rattle.protocol.specs.Clients.{WRITES, READS, begin, Close, close, isEnding, call, advance}
+use Rattle.protocol.specs.Clients.{WRITES, READS, begin, giveUp, Close, close, isEnding, call, advance}
 use Rattle.checked.specs.Ranges.{numberFits, serverInRange, messageInRange, clientInRange, administratorInRange}
 
 -- a message reaches a server
@@ -24,6 +24,10 @@ writeRule c value n = guard (clientInRange c && numberFits n) 3 (begin c WRITES 
 
 unfoldable pub readRule : Client → ℕ → Result Client
 readRule c n = guard (clientInRange c && numberFits n) 3 (begin c READS 0 n)
+
+-- a client gives its operation up
+unfoldable pub giveUpRule : Client → Result Client
+giveUpRule c = guard (clientInRange c) 3 (giveUp c)
 
 -- the answer m is taken, r being the request that waits, or 0: "5, not an answer; 7, taken before, or its request is neither that of an open phase nor the END number"
 unfoldable pub takeRule : Message → ℕ → Result Message

@@ -9,7 +9,6 @@ use protocol::Server;
 use protocol::ViewNumber;
 use protocol::limits::MESSAGES;
 use protocol::limits::VIEWS;
-use values::entries;
 use values::records;
 ghost use mathlib.Core.Path.{_≡_};
 ghost use Rattle.checked.specs.Ranges.{numberFits, serverInRange, messageInRange, clientInRange, endFits, endingInRange, administratorInRange};
@@ -46,8 +45,7 @@ pub fn client_in_range(c: Client) -> bool
     ensures { λ r. ⌜ r ≡ clientInRange c ⌝ }
 {
     let phase = c.phase;
-    let entry = c.entry;
-    let fits = entries::entry_fits(entry);
+    let fits = records::client_range(c);
     if !fits {
         return false;
     }

@@ -9,6 +9,7 @@ use protocol::Called;
 use protocol::Client;
 use protocol::Closing;
 use protocol::Entry;
+use protocol::GivenUp;
 use protocol::Message;
 use protocol::MessageNumber;
 use protocol::Phase;
@@ -30,8 +31,8 @@ use values::records;
 ghost use mathlib.Core.Path.{_≡_};
 ghost use Rattle.protocol.specs.Tools.{numberOf};
 ghost use Rattle.protocol.specs.Servers.{served};
-ghost use Rattle.protocol.specs.Clients.{begun, closing, called};
-ghost use Rattle.checked.specs.Rules.{serveRule, falseAnswerRule, writeRule, readRule, takeRule, nextFits, closeRule, callRule, advanceRule};
+ghost use Rattle.protocol.specs.Clients.{begun, givenUp, closing, called};
+ghost use Rattle.checked.specs.Rules.{serveRule, falseAnswerRule, writeRule, readRule, giveUpRule, takeRule, nextFits, closeRule, callRule, advanceRule};
 
 // A message reaches a server: 3, 5, 6, 7.
 pub fn serve_rule(a: Server, m: Message, member: bool) -> Served
@@ -95,6 +96,17 @@ pub fn read_rule(c: Client, n: MessageNumber) -> Begun
         return Begun::BeginRefused(UNFIT);
     }
     clients::begin(c, READS, 0, n)
+}
+
+// A client gives its operation up: 3, 12.
+pub fn give_up_rule(c: Client) -> GivenUp
+    ensures { λ r. ⌜ givenUp r ≡ giveUpRule c ⌝ }
+{
+    let client_ok = ranges::client_in_range(c);
+    if !client_ok {
+        return GivenUp::GiveUpRefused(3);
+    }
+    clients::give_up(c)
 }
 
 // Whether a message is an answer that may be taken, by number, r being the request that waits, or 0: 3; 5, not an answer; 7, taken

@@ -105,7 +105,7 @@ module _ (w : World) (h : Full w) where
   unfolding beforeMessages
   at-messages = simp (length-append, length-views, length-servers, length-clients, length-headerBytes)
 
-  -- "Image, 21,648 bytes"
+  -- the image, 21,712 bytes
   pub length-encode : length (encode w) ≡ imageSize
   unfolding encode
   length-encode = simp (length-append, length-views, length-servers, length-clients, length-messages, length-headerBytes)

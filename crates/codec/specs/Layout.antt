@@ -5,9 +5,9 @@ use Prim.Native.Nat.{ℕ, suc, _+_, _*_, _-_}
 use Rattle.protocol.specs.Sizes.{clients, servers, views, messages}
 use Rattle.protocol.specs.Runs.{u8Width, u16Width, u32Width}
 
--- "version u16 = 1"
+-- "the version becomes 2"
 abbrev pub version : ℕ
-version = 1
+version = 2
 
 -- "Entry, 12: count u32, writer u8, 3 zero bytes, value u32." No zero bytes end it.
 abbrev pub countPlace : ℕ
@@ -85,8 +85,12 @@ clientRequestPlace = clientKindPlace + u8Width
 abbrev pub clientEntryPlace : ℕ
 clientEntryPlace = clientRequestPlace + u16Width
 
+-- "The client record ends with the latter (u32)"
+abbrev pub givenPlace : ℕ
+givenPlace = clientEntryPlace + entryWidth
+
 abbrev pub clientWidth : ℕ
-clientWidth = clientEntryPlace + entryWidth
+clientWidth = givenPlace + u32Width
 
 -- "Message: kind u8 ..., sender u8 ..., view u8 ..., taken u8 (0 or 1) and request u16 ..., next u16 ..., entry"
 abbrev pub messageKindPlace : ℕ
@@ -126,7 +130,7 @@ endPlace = endingPlace + u8Width
 abbrev pub administratorWidth : ℕ
 administratorWidth = endPlace + u16Width
 
--- "Header: version u16 = 1, messages used u16, newest view u8, ending u8 (0 or 1), END number u16 (0 unless ending), 8 zero bytes."
+-- "Header: version u16, messages used u16, newest view u8, ending u8 (0 or 1), END number u16 (0 unless ending), 8 zero bytes."
 abbrev pub versionPlace : ℕ
 versionPlace = 0
 
@@ -158,7 +162,7 @@ clientsAt = serversAt + servers * serverWidth
 abbrev pub messagesAt : ℕ
 messagesAt = clientsAt + clients * clientWidth
 
--- "Image, 21,648 bytes"
+-- the image, 21,712 bytes
 abbrev pub imageSize : ℕ
 imageSize = messagesAt + suc messages * messageWidth
 

@@ -25,7 +25,7 @@ use Rattle.codec.specs.Layout.{version, versionPlace, administratorPlace
 use Rattle.codec.specs.Layout.{countPlace, writerPlace, entrySparePlace, entrySpare, valuePlace, entryRestPlace, entryRest, entryWidth}
 use Rattle.codec.specs.Layout.{membersPlace, thresholdPlace, viewSparePlace, viewSpare, viewWidth, newestPlace, endingPlace, endPlace}
 use Rattle.codec.specs.Layout.{serverViewPlace, faultyPlace, serverSparePlace, serverSpare, keysPlace, serverEntryPlace, serverWidth}
-use Rattle.codec.specs.Layout.{phasePlace, clientKindPlace, clientRequestPlace, clientEntryPlace, clientWidth}
+use Rattle.codec.specs.Layout.{phasePlace, clientKindPlace, clientRequestPlace, clientEntryPlace, givenPlace, clientWidth}
 use Rattle.codec.specs.Layout.{messageKindPlace, senderPlace, messageViewPlace, takenPlace, messageRequestPlace, nextPlace, messageEntryPlace, messageWidth}
 use Rattle.codec.specs.Lists.{part}
 use Rattle.codec.specs.Bytes.{le16, le32, zeros, half-le16, word-le32}
@@ -93,10 +93,11 @@ clientOf b =
       phase = phaseOf (getD b phasePlace 0) (u16At b clientRequestPlace);
       kind = getD b clientKindPlace 0;
       entry = entryOf (part b clientEntryPlace entryWidth);
+      given = record { 0 = u32At b givenPlace };
     }
 
 unfoldable pub clientBytes : Client → List ℕ
-clientBytes c = phaseTag (c .phase) ∷ c .kind ∷ (le16 (requestOf (c .phase)) ++ entryBytes (c .entry))
+clientBytes c = phaseTag (c .phase) ∷ c .kind ∷ (le16 (requestOf (c .phase)) ++ (entryBytes (c .entry) ++ le32 (c .given .0)))
 
 unfoldable pub clientPlain : List ℕ → Bool
 clientPlain b =
@@ -136,7 +137,7 @@ administratorBytes a = a .newest .0 ∷ bit (isEnding (a .ending)) ∷ le16 (end
 unfoldable pub administratorPlain : List ℕ → Bool
 administratorPlain b = leb (getD b endingPlace 0) 1 && untagged (getD b endingPlace 0) (u16At b endPlace)
 
--- "Header: version u16 = 1, messages used u16, newest view u8, ending u8 (0 or 1), END number u16 (0 unless ending), 8 zero bytes."
+-- "Header: version u16, messages used u16, newest view u8, ending u8 (0 or 1), END number u16 (0 unless ending), 8 zero bytes."
 unfoldable pub headerBytes : ℕ → Administrator → List ℕ
 headerBytes used a = le16 version ++ (le16 used ++ (administratorBytes a ++ replicate headerSpare 0))
 
@@ -191,6 +192,7 @@ pub record ServerFits (s : Server) : Type 0 where
 pub record ClientFits (c : Client) : Type 0 where
   pub request : requestOf (c .phase) < 2 ^ 16
   pub entry : EntryFits (c .entry)
+  pub given : c .given .0 < 2 ^ 32
 
 pub record MessageFits (m : Message) : Type 0 where
   pub request : m .request .0 < 2 ^ 16
@@ -223,8 +225,8 @@ phase-back (Writing m) n e = ap (λ (k : ℕ). Writing (number k)) (sym e)
 pub clientOf-bytes : (c : Client) → ClientFits c → clientOf (clientBytes c) ≡ c
 unfolding clientOf clientBytes part entryBytes entryOf
 clientOf-bytes c h =
-    simp (word-le32 _ (h .entry .count), word-le32 _ (h .entry .value))
-    (λ i. record { phase = phase-back (c .phase) _ (sym (half-le16 _ (h .request))) i; kind = c .kind; entry = c .entry })
+    simp (word-le32 _ (h .entry .count), word-le32 _ (h .entry .value), word-le32 _ (h .given))
+    (λ i. record { phase = phase-back (c .phase) _ (sym (half-le16 _ (h .request))) i; kind = c .kind; entry = c .entry; given = c .given })
 
 pub messageOf-bytes : (m : Message) → MessageFits m → messageOf (messageBytes m) ≡ m
 unfolding messageOf messageBytes part entryBytes entryOf

@@ -18,7 +18,7 @@ use Rattle.codec.specs.Layout.{version, versionPlace, usedPlace, adminis
 use Rattle.codec.specs.Layout.{countPlace, writerPlace, entrySparePlace, entrySpare, valuePlace, entryRestPlace, entryRest, entryWidth}
 use Rattle.codec.specs.Layout.{membersPlace, thresholdPlace, viewSparePlace, viewSpare, viewWidth, newestPlace, endingPlace, endPlace}
 use Rattle.codec.specs.Layout.{serverViewPlace, faultyPlace, serverSparePlace, serverSpare, keysPlace, serverEntryPlace, serverWidth}
-use Rattle.codec.specs.Layout.{phasePlace, clientKindPlace, clientRequestPlace, clientEntryPlace, clientWidth}
+use Rattle.codec.specs.Layout.{phasePlace, clientKindPlace, clientRequestPlace, clientEntryPlace, givenPlace, clientWidth}
 use Rattle.codec.specs.Layout.{messageKindPlace, senderPlace, messageViewPlace, takenPlace, messageRequestPlace, nextPlace, messageEntryPlace, messageWidth}
 use Rattle.codec.specs.Lists.{part, length-part, spells-none, spells, spelled}
 use Rattle.codec.specs.Bytes.{Bytes, le16, zeros, byte-part, le16-part, le32-part, zeros-part, zeros-back, bytes-part}
@@ -170,9 +170,11 @@ client-plain b e y p =
     spelled
     (spells _
     (spells _
+    (spells _
     (spells _ (spells _ (spells-none b) (one-part b phasePlace _ (tag-of n k (t .0)) (omega arith))) (byte-part b clientKindPlace (omega arith)))
     (half-part b clientRequestPlace _ y (request-of (eqb n 0) (eqb n 1) k (r .0)) (omega arith)))
     (entry-part b clientEntryPlace (omega arith) y (r .1)))
+    (le32-part b givenPlace y (omega arith)))
     e
 
 pub plain-client : (b : List ℕ) → clientBytes (clientOf b) ≡ b → clientPlain b ≡ true

@@ -4,8 +4,8 @@ use protocol::limits::MESSAGES;
 use protocol::limits::SERVERS;
 use protocol::limits::VIEWS;
 
-// "version u16 = 1"
-pub const VERSION: u16 = 1;
+// "the version becomes 2"
+pub const VERSION: u16 = 2;
 
 // The widths of numbers.
 pub const U8: usize = 1;
@@ -60,7 +60,8 @@ pub const SERVER: usize = SERVER_ENTRY_AT + ENTRY;
 // "0 idle, 1 reading, 2 writing"
 pub const LAST_PHASE: u8 = 2;
 
-// "Client: phase u8 (0 idle, 1 reading, 2 writing), kind u8 ..., request u16 (0 when idle), entry."
+// "Client: phase u8 (0 idle, 1 reading, 2 writing), kind u8 ..., request u16 (0 when idle), entry."; "The client record ends with the
+// latter (u32)": the largest count that it ever gave a write of its own.
 pub const PHASE_AT: usize = 0;
 
 pub const CLIENT_KIND_AT: usize = PHASE_AT + U8;
@@ -69,7 +70,9 @@ pub const CLIENT_REQUEST_AT: usize = CLIENT_KIND_AT + U8;
 
 pub const CLIENT_ENTRY_AT: usize = CLIENT_REQUEST_AT + U16;
 
-pub const CLIENT: usize = CLIENT_ENTRY_AT + ENTRY;
+pub const GIVEN_AT: usize = CLIENT_ENTRY_AT + ENTRY;
+
+pub const CLIENT: usize = GIVEN_AT + U32;
 
 // "Message: kind u8 ..., sender u8 ..., view u8 ..., taken u8 (0 or 1) and request u16 ..., next u16 ..., entry"
 pub const MESSAGE_KIND_AT: usize = 0;
@@ -97,7 +100,7 @@ pub const END_AT: usize = ENDING_AT + U8;
 
 pub const ADMINISTRATOR: usize = END_AT + U16;
 
-// "Header: version u16 = 1, messages used u16, newest view u8, ending u8 (0 or 1), END number u16 (0 unless ending), 8 zero bytes."
+// "Header: version u16, messages used u16, newest view u8, ending u8 (0 or 1), END number u16 (0 unless ending), 8 zero bytes."
 pub const VERSION_AT: usize = 0;
 
 pub const USED_AT: usize = VERSION_AT + U16;

@@ -31,6 +31,7 @@ use super::layout::ENTRY_REST_AT;
 use super::layout::ENTRY_SPARE;
 use super::layout::ENTRY_SPARE_AT;
 use super::layout::FAULTY_AT;
+use super::layout::GIVEN_AT;
 use super::layout::HEADER_SPARE;
 use super::layout::HEADER_SPARE_AT;
 use super::layout::KEYS_AT;
@@ -233,7 +234,7 @@ fn untagged_zero(tag: u8, n: u16) -> bool
     n == 0
 }
 
-// "Client: phase u8, kind u8 ..., request u16, entry."
+// "Client: phase u8, kind u8 ..., request u16, entry", and the largest count that it gave.
 pub fn read_client(b: &[u8]) -> Client
     requires { ⌜ length (now b) ≡ clientWidth ⌝ }
     ensures { λ r. ⌜ r ≡ clientOf (now (b .entry)) ⌝ }
@@ -241,10 +242,12 @@ pub fn read_client(b: &[u8]) -> Client
     let request = get16(b, CLIENT_REQUEST_AT);
     let phase = phase_of(b[PHASE_AT], MessageNumber(request));
     let entry = read_entry(&b[CLIENT_ENTRY_AT..CLIENT_ENTRY_AT + ENTRY]);
+    let given = get32(b, GIVEN_AT);
     Client {
         phase: phase,
         kind: b[CLIENT_KIND_AT],
         entry: entry,
+        given: StampCount(given),
     }
 }
 
@@ -254,11 +257,13 @@ pub fn write_client(image: &mut [u8], at: usize, v: Client)
 {
     let phase = v.phase;
     let entry = v.entry;
+    let given = v.given;
     let request = phase_request(phase);
     put8(image, at + PHASE_AT, phase_tag(phase));
     put8(image, at + CLIENT_KIND_AT, v.kind);
     put16(image, at + CLIENT_REQUEST_AT, request.0);
     write_entry(image, at + CLIENT_ENTRY_AT, entry);
+    put32(image, at + GIVEN_AT, given.0);
 }
 
 pub fn client_plain(b: &[u8]) -> bool
@@ -386,7 +391,7 @@ pub fn administrator_plain(b: &[u8]) -> bool
     untagged_zero(b[ENDING_AT], end)
 }
 
-// "Header: version u16 = 1, messages used u16, ..., 8 zero bytes."
+// "Header: version u16, messages used u16, ..., 8 zero bytes."
 pub fn header_plain(b: &[u8]) -> bool
     requires { ⌜ length (now b) ≡ headerWidth ⌝ }
     ensures { λ r. ⌜ r ≡ headerPlain (now (b .entry)) ⌝ }

@@ -1,4 +1,4 @@
--- "0 means done": by which numbers each call refuses, none of them 0, for all inputs. `step-numbers` (1 to 11: `step-range`),
+-- "0 means done": by which numbers each call refuses, none of them 0, for all inputs. `step-numbers` (1 to 12: `step-range`),
 -- `fresh-numbers`, `premise-numbers`, `replay-numbers`, `resume-numbers`, and those of the rules and the calls of single machines;
 -- the quorum size's is `quorum-refuses`. `Refuses ns x`: every refusal of x is one of ns; then `zero-done`: the number 0 means that
 -- x is done. A replay's 0: `replay-zero`, `resume-zero`. Assumes nothing.
@@ -29,10 +29,12 @@ use Rattle.image.specs.Readable.{readable}
 use Rattle.image.specs.Fresh.{outcome, freshOn}
 use Rattle.image.specs.Premise.{premiseOn}
 use Rattle.image.specs.Steps.{stepOn, stepsOf, played, unplayed, replayOn, resumeOn}
-use Rattle.checked.specs.Rules.{serveRule, falseAnswerRule, writeRule, readRule, takeRule, closeRule, callRule, advanceRule}
+use Rattle.checked.specs.Rules.{serveRule, falseAnswerRule, writeRule, readRule, giveUpRule, takeRule, closeRule, callRule, advanceRule}
 use Rattle.journal.specs.Rests.{steps-count}
-use Rattle.single.specs.Rules.{stays, serverRule, opens, clientRule, administratorRule}
+use Rattle.single.specs.Rules.{stays, serverRule, opens, clientRule, operationRule, droppingRule, administratorRule}
 use Rattle.single.specs.Calls.{serverCall, clientCall, administratorCall}
+use Rattle.protocol.specs.Steps.{giveUpStep}
+use Rattle.protocol.specs.Clients.{giveUp}
 
 -- ---- a step
 
@@ -124,6 +126,10 @@ pub read-numbers : (c : Client) (n : ℕ) → Refuses (3 ∷ 4 ∷ []) (readRule
 unfolding readRule
 read-numbers c n = refuses-guard _ _ _ _ refl (refuses-more (4 ∷ []) _ _ refl (begin-refuses _ _ _ _))
 
+pub give-up-numbers : (c : Client) → Refuses (3 ∷ 12 ∷ []) (giveUpRule c)
+unfolding giveUpRule giveUp
+give-up-numbers c = refuses-guard _ _ _ _ refl (refuses-guard _ _ _ _ refl (refuses-done _ _))
+
 pub take-numbers : (m : Message) (r : ℕ) → Refuses (3 ∷ 5 ∷ 7 ∷ []) (takeRule m r)
 unfolding takeRule
 take-numbers m r = refuses-guard _ _ _ _ refl (refuses-guard _ _ _ _ refl (refuses-guard _ _ _ _ refl (refuses-done _ _)))
@@ -164,16 +170,24 @@ server-call-numbers s b =
     (refuses-guard _ _ _ _ refl
     (refuses-guard _ _ _ _ refl (refuses-guard _ _ _ _ refl (refuses-guard _ _ _ _ refl (server-rule-refuses _ _ _ _ _)))))
 
-client-rule-refuses : (c : Client) (rule who n : ℕ) (e : Entry) → Refuses (1 ∷ 3 ∷ 4 ∷ 7 ∷ 11 ∷ []) (clientRule c rule who n e)
-unfolding clientRule
-client-rule-refuses c rule who n e =
+operation-rule-refuses : (c : Client) (rule who n : ℕ) (e : Entry) → Refuses (1 ∷ 3 ∷ 4 ∷ 7 ∷ 11 ∷ 12 ∷ []) (operationRule c rule who n e)
+unfolding operationRule
+operation-rule-refuses c rule who n e =
     refuses-if _ (eqb rule 4) _ _ (refuses-more (3 ∷ 7 ∷ 11 ∷ []) _ _ refl (close-numbers _ _ _ _))
     (refuses-guard _ _ _ _ refl
     (refuses-guard _ _ _ _ refl
     (refuses-if _ (eqb rule 1) _ _ (opens-refuses _ _ (refuses-more (3 ∷ 4 ∷ []) _ _ refl (write-numbers c (e .value) n)))
     (refuses-guard _ _ _ _ refl (refuses-guard _ _ _ _ refl (opens-refuses _ _ (refuses-more (3 ∷ 4 ∷ []) _ _ refl (read-numbers c n))))))))
 
-pub client-call-numbers : (c b : List ℕ) → Refuses (1 ∷ 3 ∷ 4 ∷ 7 ∷ 11 ∷ []) (clientCall c b)
+client-rule-refuses : (c : Client) (rule who n : ℕ) (e : Entry) → Refuses (1 ∷ 3 ∷ 4 ∷ 7 ∷ 11 ∷ 12 ∷ []) (clientRule c rule who n e)
+unfolding clientRule droppingRule
+client-rule-refuses c rule who n e =
+    refuses-if _ (eqb rule giveUpStep) _ _
+    (refuses-guard _ _ _ _ refl
+    (refuses-guard _ _ _ _ refl (refuses-guard _ _ _ _ refl (opens-refuses _ _ (refuses-more (3 ∷ 12 ∷ []) _ _ refl (give-up-numbers c))))))
+    (operation-rule-refuses c rule who n e)
+
+pub client-call-numbers : (c b : List ℕ) → Refuses (1 ∷ 3 ∷ 4 ∷ 7 ∷ 11 ∷ 12 ∷ []) (clientCall c b)
 unfolding clientCall
 client-call-numbers c b =
     refuses-guard _ _ _ _ refl

@@ -1,20 +1,26 @@
--- Demand 3 on the bytes, for runs and for journals: `linearizable-images` and `linearizable-journals`. `run-reported` says that the
+-- Demand 3 on the bytes, for runs and for journals: `linearizable-images` and `linearizable-journals`. `never-again`: no run gives a stamp
+-- twice, whatever is faulty. `run-reported` says that the
 -- premise report on which they rest is an answer and no refusal. What runs, histories and journals are stands in Runs.antt,
 -- Journals.antt and image/specs/Steps.antt; what `Consistent` is, in protocol/specs/Consistent.antt. Assumes nothing.
 use Prim.Native.Nat.{ℕ}
 use mathlib.Core.Bool.{Bool, true}
 use mathlib.Core.Path.{_≡_, refl, sym, ap, subst, _∙_}
+use mathlib.Core.Option.{some}
 use mathlib.Core.List.{List}
 use borrow.Author.Tests.{eq-eqb}
 use Rattle.protocol.specs.Tools.{done, guard, passed}
 use Rattle.protocol.specs.Worlds.{World, premise}
-use Rattle.protocol.specs.Consistent.{Consistent}
+use Rattle.protocol.specs.declared.Entry.{Entry}
+use Rattle.protocol.specs.Entries.{countOf, writerOf}
+use Rattle.protocol.specs.Clients.{WRITES}
+use Rattle.protocol.specs.Consistent.{Operation, In, Consistent}
 use Rattle.codec.specs.Images.{decode}
 use Rattle.image.specs.Readable.{read}
 use Rattle.image.specs.Fresh.{freshOn}
 use Rattle.image.specs.Premise.{premiseOn}
 use Rattle.image.specs.Steps.{replayOn}
 use Rattle.image.specs.Worlds.{Spells, spells-decode, spells-readable}
+use Rattle.agreement.specs.Stamps.{never-again as once-given}
 use Rattle.agreement.specs.Theorem.{linearizable}
 use Rattle.consistency.specs.Runs.{runFrom, history}
 use Rattle.consistency.specs.Worlds.{runFrom-same, history-same}
@@ -51,6 +57,16 @@ linearizable-images buffer members f e steps p =
     let b = began buffer members f e in
     let s = runFrom-same _ (b .world) steps (b .spells) in
     subst Consistent (sym (history-same _ _ s)) (linearizable members f (b .world) (b .from) steps (report-holds (s .image) p))
+
+-- "in a run its stamp is never given again": for every fresh image and every list of byte strings, and with no premise, two write
+-- operations of the run whose entries have one stamp are one
+pub never-again : (buffer : List ℕ) (members f : ℕ) → freshOn buffer members f .refusal ≡ 0 → (steps : List (List ℕ)) → (x y : Operation)
+    → In x (history (runFrom (freshOn buffer members f .image) steps)) → In y (history (runFrom (freshOn buffer members f .image) steps))
+    → x .kind ≡ WRITES → y .kind ≡ WRITES → {e g : Entry} → x .entry ≡ some e → y .entry ≡ some g → countOf e ≡ countOf g → writerOf e ≡ writerOf g → x ≡ y
+never-again buffer members f e steps x y i j p q u v k l =
+    let b = began buffer members f e in
+    let s = runFrom-same _ (b .world) steps (b .spells) in
+    once-given members f (b .world) (b .from) steps x y (rw (history-same _ _ s) at i) (rw (history-same _ _ s) at j) p q u v k l
 
 -- For every buffer, member bits and f that are not refused, and every journal of any bytes and any length: if the premise report of
 -- the image that its replay on the fresh image leaves says that the premise holds, so have the operations of the steps done.

@@ -1,11 +1,10 @@
 // The C interface. Every answer is refusal + 256 * result.
 ghost use mathlib.Core.Path.{_≡_};
-ghost use Prim.Native.Nat.{_+_, _*_, _≤_};
+ghost use Prim.Native.Nat.{_+_, _*_, _%_, _^_};
 ghost use Rattle.protocol.specs.Sizes.{quorumSize};
 ghost use Rattle.image.specs.Fresh.{freshOn};
 ghost use Rattle.image.specs.Premise.{premiseOn};
 ghost use Rattle.image.specs.Steps.{stepOn, leftBy, answered, replayOn, resumeOn};
-ghost use Rattle.bounds.specs.Progress.{limit};
 ghost use Rattle.exports.specs.Answers.{packed, flagged, packedReplay};
 ghost use Rattle.single.specs.Calls.{serverCall, replied, serverLeft, clientCall, completed, clientLeft, administratorCall, accepted, administratorLeft};
 use codec::records::write_administrator;
@@ -73,12 +72,15 @@ pub extern "C" fn zw_premise(image: &[u8]) -> u64
     }
 }
 
-// The answer of a replay; its steps fit, as no world accepts more than 3,102.
+// What is left of an answer beside the refusal: 2^56. No journal that fits a memory has as many steps.
+const STEPS: u64 = 72057594037927936;
+
+// The answer of a replay: its refusal, and its steps in what is left.
 fn packed(done: Replayed) -> u64
-    requires { ⌜ done .steps ≤ limit ⌝ }
-    ensures { λ r. ⌜ r ≡ done .refusal + 256 * done .steps ⌝ }
+    ensures { λ r. ⌜ r ≡ done .refusal + 256 * (done .steps % 2 ^ 56) ⌝ }
 {
-    done.refusal as u64 + 256 * (done.steps as u64)
+    let steps = done.steps as u64 % STEPS;
+    done.refusal as u64 + 256 * steps
 }
 
 // "Replay (image, journal)": refusal, steps done.

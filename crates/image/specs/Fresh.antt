@@ -35,7 +35,7 @@ abbrev pub outcome : List ℕ → Result World → Outcome
 outcome i (refused n) = record { refusal = n; image = i }
 outcome i (done w) = record { refusal = 0; image = encode w }
 
--- "Fresh world (member bits, f): 1, buffer not 21,648 bytes; 8, size rule broken." A refusal leaves the buffer as it was.
+-- "Fresh world (member bits, f): 1, buffer not" an image's length "; 8, size rule broken." A refusal leaves the buffer as it was.
 unfoldable pub freshOn : List ℕ → ℕ → ℕ → Outcome
 freshOn i bits f = outcome i (guard (eqb (length i) imageSize) 1 (fresh bits f))
 

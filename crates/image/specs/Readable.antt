@@ -25,7 +25,7 @@ use Rattle.protocol.specs.Servers.{READ, WRITE, END, ANSWER, isRequest}
 use Rattle.protocol.specs.Clients.{WRITES, READS, requestOf, endOf}
 use Rattle.protocol.specs.Worlds.{World, view, server, client, message, newest, present}
 use Rattle.protocol.specs.Chains.{chain}
-use Rattle.protocol.specs.Readable.{isSent, endingFits, lastView, viewFits, serverFits, phaseFits, clientFits, sentFits, zeroMessage, messageFits, takenAnswer, wellFormed}
+use Rattle.protocol.specs.Readable.{isSent, endingFits, lastView, viewFits, serverFits, phaseFits, clientRange, clientFits, sentFits, zeroMessage, messageFits, takenAnswer, chainFits, wellFormed}
 use Rattle.codec.specs.Layout.{imageSize}
 use Rattle.codec.specs.Records.{EntryFits, ViewFits, ServerFits, ClientFits, MessageFits}
 use Rattle.codec.specs.Images.{encode, decode}
@@ -147,10 +147,15 @@ server-below w h s e =
     }
 
 client-below : (w : World) → w .used ≤ messages → (c : ℕ) → clientFits w c ≡ true → ClientFits (client w c)
-unfolding clientFits
+unfolding clientFits clientRange
 client-below w h c e =
-    let a = both (entryFits (client w c .entry)) (phaseFits w c (client w c) (client w c .phase)) e in
-    record { request = phase-below w h c (client w c) (client w c .phase) (a .1); entry = entry-fits (client w c .entry) (a .0) }
+    let a = both (clientRange (client w c)) (phaseFits w c (client w c) (client w c .phase)) e in
+    let b = both (entryFits (client w c .entry)) (ltb (client w c .given .0) (2 ^ 32)) (a .0) in
+    record {
+      request = phase-below w h c (client w c) (client w c .phase) (a .1);
+      entry = entry-fits (client w c .entry) (b .0);
+      given = ltb-true (client w c .given .0) (2 ^ 32) (b .1);
+    }
 
 zero-below : (m : Message) → zeroMessage m ≡ true → MessageFits m
 unfolding zeroMessage

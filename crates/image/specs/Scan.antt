@@ -13,11 +13,11 @@ use Rattle.protocol.specs.declared.Administrator.{Administrator}
 use Rattle.protocol.specs.declared.Message.{Message}
 use Rattle.protocol.specs.Tools.{if, within, countTo, allTo, both, join, sumTo}
 use Rattle.protocol.specs.Sizes.{clients, servers, views, messages}
-use Rattle.protocol.specs.Entries.{entryFits}
-use Rattle.protocol.specs.Servers.{END}
+use Rattle.protocol.specs.Servers.{END, isRequest}
+use Rattle.protocol.specs.Clients.{isEnding}
 use Rattle.protocol.specs.Worlds.{World, message, present}
 use Rattle.protocol.specs.Readable.{viewRule, serverRule, messageRule, lastOf, isAsked}
-use Rattle.protocol.specs.Readable.{isSent, endingFits, sentFits, phaseFits, headerFits, lastView, viewFits, serverFits, clientFits, zeroMessage, messageFits, takenAnswer, chainFits}
+use Rattle.protocol.specs.Readable.{isSent, endingFits, sentFits, phaseFits, headerFits, lastView, viewFits, serverFits, clientRange, clientFits, zeroMessage, messageFits, takenAnswer, chainFits}
 use Rattle.codec.specs.Layout.{imageSize, headerWidth}
 use Rattle.codec.specs.Lists.{part}
 use Rattle.codec.specs.Bytes.{Bytes}
@@ -129,7 +129,7 @@ unfolding messageFits
 beyond-rule i used n e b = rw (message-decode i n b, e ∙ sym (used-decode i))
 
 pub client-rule : (i : List ℕ) (c : ℕ) → 1 ≤ c → c ≤ clients
-    → clientFits (decode i) c ≡ entryFits (clientAt i c .entry) && phaseFits (decode i) c (clientAt i c) (clientAt i c .phase)
+    → clientFits (decode i) c ≡ clientRange (clientAt i c) && phaseFits (decode i) c (clientAt i c) (clientAt i c .phase)
 unfolding clientFits
 client-rule i c a b = rw (client-decode i c a b)
 

@@ -88,7 +88,7 @@ fn store_fresh(image: &mut [u8], v: View)
     store_servers(image, members);
 }
 
-// "Fresh world (member bits, f): 1, buffer not 21,648 bytes; 8, size rule broken."
+// "Fresh world (member bits, f): 1, buffer not" an image's length "; 8, size rule broken."
 pub fn fresh(image: &mut [u8], members: u32, f: u8) -> u8
     ensures { λ r. ⌜ (r ≡ freshOn (now (image .entry)) members f .refusal) × (now (image .exit) ≡ freshOn (now (image .entry)) members f .image) ⌝ }
 {

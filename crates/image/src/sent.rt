@@ -25,7 +25,6 @@ use protocol::kinds::READ;
 use protocol::kinds::WRITE;
 use protocol::limits::MESSAGES;
 use protocol::limits::VIEWS;
-use values::entries::entry_fits;
 use values::entries::same;
 use values::records;
 
@@ -159,8 +158,7 @@ pub fn client_fits(image: &[u8], c: u8) -> bool
     ensures { λ r. ⌜ r ≡ clientFits (decode (now (image .entry))) c ⌝ }
 {
     let a = load_client(image, c);
-    let entry = a.entry;
-    if !entry_fits(entry) {
+    if !records::client_range(a) {
         return false;
     }
     phase_fits(image, c, a)

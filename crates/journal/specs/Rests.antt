@@ -21,7 +21,7 @@ use Rattle.image.specs.Steps.{stepsIn, stepsOf, played, unplayed, replayOn, res
 use Rattle.journal.specs.Replays.{beyond, rest-stops, whole-replay, rest-some}
 
 -- a replay leaves a readable world
-replay-kept : (w : World) (bs : List (List ℕ)) → wellFormed w ≡ true → wellFormed (replay w bs .world) ≡ true
+pub replay-kept : (w : World) (bs : List (List ℕ)) → wellFormed w ≡ true → wellFormed (replay w bs .world) ≡ true
 unfolding replay
 replay-kept w [] h = h
 replay-kept w (b ∷ bs) h = go (stepBytes w b) refl (left-kept w h b) (λ v. replay-kept v bs)
@@ -46,7 +46,7 @@ replay-most w (b ∷ bs) = go (stepBytes w b) (λ v. replay-most v bs)
     go (refused n) ih = omega arith
     go (done a) ih = let h = ih (a .world) in omega arith
 
-length-steps : (n : ℕ) (j : List ℕ) → length (stepsIn n j) ≡ n
+pub length-steps : (n : ℕ) (j : List ℕ) → length (stepsIn n j) ≡ n
 unfolding stepsIn
 length-steps zero j = refl
 length-steps (suc n) j = let h = length-steps n (drop stepWidth j) in omega arith

@@ -24,7 +24,7 @@ fn first(image: &mut [u8], rest: &[u8]) -> Stepped
 }
 
 // "It stops at the first refused step": on a readable image, a journal of whole steps.
-fn play(image: &mut [u8], journal: &[u8]) -> Replayed
+pub fn play(image: &mut [u8], journal: &[u8]) -> Replayed
     requires { ⌜ Legible (now image) × (length (now journal) % stepWidth ≡ 0) ⌝ }
     ensures { λ r. ⌜ Plays r (now (image .exit)) (played (replayOf (decode (now (image .entry))) (stepsOf (now (journal .entry))))) ⌝ }
 {

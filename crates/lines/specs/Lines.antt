@@ -20,9 +20,17 @@ unfoldable pub digits : ℕ → ℕ → List ℕ
 digits zero n = []
 digits (suc most) n = if (ltb n 10) [] (digits most (n / 10)) ++ ((48 + n % 10) ∷ [])
 
--- the digits of a number below 10^10 and one byte behind them
+-- a number below 2^64 has no more digits than these
+abbrev pub mostDigits : ℕ
+mostDigits = 20
+
+-- every line fits as many bytes
+abbrev pub lineWidth : ℕ
+lineWidth = 96
+
+-- the digits of a number below 10^20 and one byte behind them
 unfoldable pub numberThen : ℕ → ℕ → List ℕ
-numberThen n then = digits 10 n ++ (then ∷ [])
+numberThen n then = digits mostDigits n ++ (then ∷ [])
 
 -- "W or R"
 abbrev pub letterOf : ℕ → ℕ
@@ -71,9 +79,9 @@ length-digits (suc most) n = go (ltb n 10) (length-digits most (n / 10))
     go true h = omega arith
     go false h = simp length-append (omega arith)
 
-pub length-number : (n then : ℕ) → length (numberThen n then) ≤ 11
+pub length-number : (n then : ℕ) → length (numberThen n then) ≤ 21
 unfolding numberThen
-length-number n then = simp length-append (omega (arith, length-digits 10 n))
+length-number n then = simp length-append (omega (arith, length-digits mostDigits n))
 
 -- out is l with the text t at its start, and at is the place behind it
 pub record Text (l t out : List ℕ) (at : ℕ) : Type 0 where
@@ -133,13 +141,13 @@ digits-more l mid out at next (suc most) n a b h p q e =
     )
 
 -- the digits and the byte behind them
-pub number-put : (l mid out : List ℕ) (at next n then : ℕ) → at ≤ length l → next ≡ at + length (digits 10 n) → mid ≡ put l at (digits 10 n)
+pub number-put : (l mid out : List ℕ) (at next n then : ℕ) → at ≤ length l → next ≡ at + length (digits mostDigits n) → mid ≡ put l at (digits mostDigits n)
     → out ≡ put mid next (then ∷ []) → (next + 1 ≡ at + length (numberThen n then)) × (out ≡ put l at (numberThen n then))
 unfolding numberThen
 number-put l mid out at next n then h p q e = (
   simp length-append (omega arith),
-  e ∙ ap (λ (x : List ℕ). put x next (then ∷ [])) q ∙ ap (λ (x : ℕ). put (put l at (digits 10 n)) x (then ∷ [])) p
-      ∙ put-put l at (digits 10 n) (then ∷ []) h,
+  e ∙ ap (λ (x : List ℕ). put x next (then ∷ [])) q ∙ ap (λ (x : ℕ). put (put l at (digits mostDigits n)) x (then ∷ [])) p
+      ∙ put-put l at (digits mostDigits n) (then ∷ []) h,
 )
 
 -- the letter and a space
@@ -149,7 +157,7 @@ letter-put l out at x y e d = d ∙ ap (λ (k : ℕ). put l at (k ∷ 32 ∷ [])
 -- ---- the lines of the worked session: "1 W 1 1 7", "2 R 1 1 7", "done 10 0"
 
 abbrev idle : ℕ → Client
-idle kind = record { phase = Idle; kind = kind; entry = entry 1 1 7 }
+idle kind = record { phase = Idle; kind = kind; entry = entry 1 1 7; given = record { 0 = 0 } }
 
 pub worked :
     (operationLine 1 (idle WRITES) ≡ 49 ∷ 32 ∷ 87 ∷ 32 ∷ 49 ∷ 32 ∷ 49 ∷ 32 ∷ 55 ∷ 10 ∷ [])

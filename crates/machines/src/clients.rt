@@ -3,18 +3,23 @@ use protocol::Begun;
 use protocol::Client;
 use protocol::Closing;
 use protocol::Entry;
+use protocol::GivenUp;
 use protocol::MessageNumber;
 use protocol::Phase;
 use protocol::StampCount;
 use protocol::View;
+use protocol::kinds::NONE;
 use protocol::kinds::WRITES;
 use protocol::limits::LAST_COUNT;
+use protocol::refusals::IDLE;
 use values::entries;
 use values::sizes;
 ghost use mathlib.Core.Path.{_≡_};
 ghost use mathlib.Core.Bool.{true};
+ghost use Prim.Native.Nat.{_+_, _≤_};
+ghost use Rattle.protocol.specs.Sizes.{lastCount};
 ghost use Rattle.machines.specs.Clients.{closeRead, closeWrite};
-ghost use Rattle.protocol.specs.Clients.{isIdle, requestOf, begin, begun, closeSize, toWrite, countLeft, close, closing};
+ghost use Rattle.protocol.specs.Clients.{isIdle, requestOf, begin, begun, giveUp, givenUp, closeSize, nextCount, toWrite, givenBy, countLeft, close, closing};
 
 // Whether a phase is idle.
 pub fn is_idle(p: Phase) -> bool
@@ -54,6 +59,7 @@ pub fn begin(c: Client, kind: u8, value: u32, n: MessageNumber) -> Begun
     ensures { λ r. ⌜ begun r ≡ begin c kind value (n .0) ⌝ }
 {
     let phase = c.phase;
+    let given = c.given;
     let idle = is_idle(phase);
     if !idle {
         return Begun::BeginRefused(4);
@@ -63,19 +69,61 @@ pub fn begin(c: Client, kind: u8, value: u32, n: MessageNumber) -> Begun
         phase: Phase::Reading(n),
         kind: kind,
         entry: entry,
+        given: given,
     })
+}
+
+// A client gives its operation up: its phase is idle, and it keeps the largest count that it gave. 12, the client is idle.
+pub fn give_up(c: Client) -> GivenUp
+    ensures { λ r. ⌜ givenUp r ≡ giveUp c ⌝ }
+{
+    let phase = c.phase;
+    let given = c.given;
+    let idle = is_idle(phase);
+    if idle {
+        return GivenUp::GiveUpRefused(IDLE);
+    }
+    let empty = entries::entry_of(StampCount(0), 0, 0);
+    GivenUp::GaveUp(Client {
+        phase: Phase::Idle,
+        kind: NONE,
+        entry: empty,
+        given: given,
+    })
+}
+
+// The larger of the count read and the largest that this client ever gave a write of its own: the next is one above it.
+fn count_before(c: Client, e: Entry) -> u32
+    ensures { λ r. ⌜ r + 1 ≡ nextCount c e ⌝ }
+{
+    let stamp = e.stamp;
+    let read = stamp.count;
+    let given = c.given;
+    if read.0 < given.0 {
+        return given.0;
+    }
+    read.0
 }
 
 // Whether the count that a closing write needs is left.
 pub fn count_left(c: Client, e: Entry) -> bool
     ensures { λ r. ⌜ r ≡ countLeft c e ⌝ }
 {
-    let stamp = e.stamp;
-    let count = stamp.count;
     if c.kind != WRITES {
         return true;
     }
-    count.0 < LAST_COUNT
+    let before = count_before(c, e);
+    before < LAST_COUNT
+}
+
+// The count of a write of its own.
+fn next_count(c: Client, e: Entry) -> StampCount
+    requires { ⌜ nextCount c e ≤ lastCount ⌝ }
+    ensures { λ r. ⌜ r ≡ record { 0 = nextCount c e } ⌝ }
+{
+    let before = count_before(c, e);
+    let raised = before + 1;
+    StampCount(raised)
 }
 
 // What is written after READ closed with the entry e: a reader writes it back, a writer its value with the next count.
@@ -83,14 +131,24 @@ fn to_write(c: Client, who: u8, e: Entry) -> Entry
     requires { ⌜ countLeft c e ≡ true ⌝ }
     ensures { λ r. ⌜ r ≡ toWrite c who e ⌝ }
 {
-    let stamp = e.stamp;
-    let count = stamp.count;
     let own = c.entry;
     if c.kind != WRITES {
         return e;
     }
-    let raised = count.0 + 1;
-    entries::entry_of(StampCount(raised), who, own.value)
+    let count = next_count(c, e);
+    entries::entry_of(count, who, own.value)
+}
+
+// The largest count that the client ever gave, once its READ closed with the entry e.
+fn given_by(c: Client, e: Entry) -> StampCount
+    requires { ⌜ countLeft c e ≡ true ⌝ }
+    ensures { λ r. ⌜ r ≡ givenBy c e ⌝ }
+{
+    let given = c.given;
+    if c.kind != WRITES {
+        return given;
+    }
+    next_count(c, e)
 }
 
 // READ closes with the entry e: the WRITE, number n, is next. 11, the closing write would need a count over 4,294,967,295.
@@ -102,10 +160,12 @@ fn close_read(c: Client, who: u8, e: Entry, n: MessageNumber) -> Closing
         return Closing::CloseRefused(11);
     }
     let entry = to_write(c, who, e);
+    let given = given_by(c, e);
     Closing::WritesNext(Client {
         phase: Phase::Writing(n),
         kind: c.kind,
         entry: entry,
+        given: given,
     })
 }
 
@@ -114,10 +174,12 @@ fn close_write(c: Client) -> Closing
     ensures { λ r. ⌜ closing r ≡ closeWrite c ⌝ }
 {
     let entry = c.entry;
+    let given = c.given;
     Closing::Completed(Client {
         phase: Phase::Idle,
         kind: c.kind,
         entry: entry,
+        given: given,
     })
 }
 

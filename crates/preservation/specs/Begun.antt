@@ -9,9 +9,9 @@ use Rattle.protocol.specs.Tools.{bitOf, Result, refused, done, passed}
 use Rattle.protocol.specs.Sizes.{servers, clients, views, messages, sized, viewWith}
 use Rattle.protocol.specs.Entries.{same, entryFits}
 use Rattle.protocol.specs.Worlds.{World, noMessage, server, client, freshWorld, fresh}
-use Rattle.protocol.specs.Steps.{After}
-use Rattle.protocol.specs.Runs.{stepOf, stepBytes, left}
-use Rattle.protocol.specs.Readable.{endingFits, lastView, viewFits, serverFits, clientFits, zeroMessage, wellFormed}
+use Rattle.protocol.specs.Steps.{After, step}
+use Rattle.protocol.specs.Runs.{stepOf, stepBytes, left, run}
+use Rattle.protocol.specs.Readable.{endingFits, lastView, viewFits, serverFits, clientRange, clientFits, zeroMessage, wellFormed}
 use Rattle.protocol.specs.Laws.Fresh.{First, member-of, outside, first, used-none, views-count, servers-count, clients-count, messages-count, fresh-newest, fresh-view, fresh-client, fresh-message, fresh-beyond}
 use Rattle.protocol.specs.Laws.Formed.{Formed, well-formed}
 use Rattle.preservation.specs.Updates.{is-mail, is-view}
@@ -48,7 +48,7 @@ module _ (v : View) (z : sized v ≡ true) where
       go (outside e) = rw (fresh-newest v, e) refl
 
   fresh-clients : (c : ℕ) → 1 ≤ c → c ≤ clients → clientFits (freshWorld v) c ≡ true
-  unfolding clientFits entryFits same
+  unfolding clientFits clientRange entryFits same
   fresh-clients c l u = rw (fresh-client v c) refl
 
   fresh-formed : Formed (freshWorld v)

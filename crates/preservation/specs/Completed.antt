@@ -16,9 +16,9 @@ use Rattle.protocol.specs.declared.View.{View}
 use Rattle.protocol.specs.Entries.{chosen}
 use Rattle.protocol.specs.Chains.{enough, shown}
 use Rattle.protocol.specs.Servers.{READ, WRITE, END, isRequest, serve, mayAnswer}
-use Rattle.protocol.specs.Clients.{WRITES, READS, begin, closeSize, close, call}
-use Rattle.protocol.specs.Worlds.{World, view, newest, server, client, message, member, present, room, nextNumber}
-use Rattle.protocol.specs.Steps.{After, moved, source?, link, takenWith, begins, answers, deliver, closes, starts, takes, take, fault, lie, newView, perform, step, viewAsked}
+use Rattle.protocol.specs.Clients.{WRITES, READS, begin, giveUp, closeSize, close, call}
+use Rattle.protocol.specs.Worlds.{World, view, newest, server, client, message, member, present, room, withClient, nextNumber}
+use Rattle.protocol.specs.Steps.{After, moved, source?, link, takenWith, begins, answers, deliver, closes, starts, takes, take, fault, lie, newView, givesUp, perform, step, viewStep, viewAsked}
 use Rattle.protocol.specs.Readable.{wellFormed}
 use Rattle.protocol.specs.Laws.Tests.{and-left, and-right, within-true}
 use Rattle.protocol.specs.Laws.Formed.{Formed, formed}
@@ -126,6 +126,10 @@ newView-tells : (w : World) (v : View) → Tells (newView w v)
 unfolding newView
 newView-tells w v = tells-then (call (w .administrator) v (nextNumber w)) _ (λ a. tells-room (room w) _)
 
+givesUp-tells : (w : World) (c : ℕ) → Tells (givesUp w c)
+unfolding givesUp
+givesUp-tells w c = tells-then (giveUp (client w c)) _ (λ a. tells-moved (withClient w c a))
+
 perform-tells : {w : World} → Formed w → (st : Step) → Tells (perform w st)
 unfolding perform
 perform-tells {w} h st =
@@ -135,7 +139,8 @@ perform-tells {w} h st =
     (tells-either (eqb (st .kind) 4) (take-tells h (st .message .0))
     (tells-either (eqb (st .kind) 5) (fault-tells w (st .who))
     (tells-either (eqb (st .kind) 6) (lie-tells w (st .who) (st .view .0) (st .message .0) (st .source .0))
-    (newView-tells w (viewAsked st)))))))
+    (tells-either (eqb (st .kind) viewStep) (newView-tells w (viewAsked st))
+    (givesUp-tells w (st .who))))))))
 
 -- An accepted step on a readable world completes an operation of one of the sixteen clients, or none.
 pub completes : (w : World) → wellFormed w ≡ true → (st : Step) (a : After) → step w st ≡ done a → Told (a .completed)

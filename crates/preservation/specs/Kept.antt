@@ -28,11 +28,11 @@ use Rattle.protocol.specs.Tools.{if, within, all, holds, bitOf, Result, refused
 use Rattle.protocol.specs.Sizes.{clients, servers, views, messages, lastCount, sized, writeSize}
 use Rattle.protocol.specs.Entries.{entry, empty, countOf, writerOf, larger, chosen, same, entryFits}
 use Rattle.protocol.specs.Servers.{READ, WRITE, END, START, ANSWER, isRequest, Reply, keeping, withoutKey, joining, gathering, mayAnswer}
-use Rattle.protocol.specs.Clients.{NONE, WRITES, READS, number, begin, closeSize, toWrite, countLeft, Close, closeBy, close, isEnding, endOf, requestOf, call, advance}
+use Rattle.protocol.specs.Clients.{NONE, WRITES, READS, number, begin, closeSize, nextCount, toWrite, givenBy, countLeft, giveUp, Close, closeBy, close, isEnding, endOf, requestOf, call, advance}
 use Rattle.protocol.specs.Worlds.{World, view, server, client, message, newest, member, present, room, withServer, withClient, withView, withMessage, withAdministrator, send, nextNumber}
 use Rattle.protocol.specs.Chains.{chain, tagged, enough, shown}
-use Rattle.protocol.specs.Steps.{After, moved, request, answer, answers, begins, deliver, link, open?, takenWith, closes, starts, takes, take, fault, source?, lie, newView, writeStep, readStep, deliverStep, faultStep, falseStep, uses, viewAsked, step}
-use Rattle.protocol.specs.Readable.{isSent, serverFits, phaseFits, clientFits, senderFits, tagRule, requestFits, nextFits, entryZero, sentFits, takenAnswer, wellFormed}
+use Rattle.protocol.specs.Steps.{After, moved, request, answer, answers, begins, deliver, link, open?, takenWith, closes, starts, takes, take, fault, source?, lie, newView, givesUp, writeStep, readStep, deliverStep, faultStep, falseStep, giveUpStep, rowOf, viewAsked, step}
+use Rattle.protocol.specs.Readable.{isSent, serverFits, phaseFits, clientRange, clientFits, senderFits, tagRule, requestFits, nextFits, entryZero, sentFits, takenAnswer, wellFormed}
 use Rattle.protocol.specs.Laws.Tests.{and-left, and-right, and-both, clash, within-true, went, is-within}
 use Rattle.protocol.specs.Laws.Entries.{larger-one, Listed, head, tail, chosen-one}
 use Rattle.protocol.specs.Laws.Worlds.{message-new}
@@ -292,8 +292,21 @@ unfolding sentFits
 client-message w c kind e i (inl k) z f = rw k (and-both _ _ (is-within 1 clients c (i .low) (i .high)) (and-both _ _ (rw k at z) f))
 client-message w c kind e i (inr k) z f = rw k (and-both _ _ (is-within 1 clients c (i .low) (i .high)) (and-both _ _ (rw k at z) f))
 
+-- the clause of a client
+record Client-of (w : World) (c : ℕ) : Type 0 where
+  entry : entryFits (client w c .entry) ≡ true
+  given : ltb (client w c .given .0) (2 ^ 32) ≡ true
+  phase : phaseFits w c (client w c) (client w c .phase) ≡ true
+
+client-of : {w : World} → Formed w → (c : ℕ) → IsClient c → Client-of w c
+unfolding clientFits clientRange
+client-of {w} h c i =
+    let e = h .client c (i .low) (i .high) in
+    let r = and-left _ _ e in
+    record { entry = and-left _ _ r; given = and-right (entryFits (client w c .entry)) _ r; phase = and-right (clientRange (client w c)) _ e }
+
 begins-kept : {w : World} → Formed w → {c : ℕ} → IsClient c → (kind value : ℕ) → (kind ≡ WRITES) ⊎ ((kind ≡ READS) × (value ≡ 0)) → value ≤ lastCount → (a : After) → begins w c kind value ≡ done a → Formed (a .world)
-unfolding begins begin
+unfolding begins begin clientRange
 begins-kept {w} h {c} i kind value k v a e =
     let g = went _ _ _ e in
     let (q, f) = passed _ _ _ _ (g .is) in
@@ -306,9 +319,9 @@ begins-kept {w} h {c} i kind value k v a e =
     sends : w .used < messages → Formed (send w m)
     sends l = formed-send h m l (client-message w c READ empty i (inl refl) (empty-zero c) empty-fits) refl refl
 
-    fits : w .used < messages → clientOk (send w m) c (record { phase = Reading (number (w .used + 1)); kind = kind; entry = entry 0 0 value }) ≡ true
+    fits : w .used < messages → clientOk (send w m) c (record { phase = Reading (number (w .used + 1)); kind = kind; entry = entry 0 0 value; given = client w c .given }) ≡ true
     fits l =
-        and-both _ _ (value-fits value v)
+        and-both _ _ (and-both _ _ (value-fits value v) (client-of h c i .given))
         (and-both _ _ (kinds k) (and-both _ _ (new-sent h m l READ c refl refl) (reading k)))
       where
         kinds : (kind ≡ WRITES) ⊎ ((kind ≡ READS) × (value ≡ 0)) → within WRITES READS kind ≡ true
@@ -319,7 +332,7 @@ begins-kept {w} h {c} i kind value k v a e =
         reading (inl e) = or-first (eqb kind WRITES) _ (eq-eqb _ _ e)
         reading (inr e) = or-second (eqb kind WRITES) _ (eq-eqb _ _ (e .1))
 
-    go : w .used < messages → (b : Client) → b ≡ record { phase = Reading (number (w .used + 1)); kind = kind; entry = entry 0 0 value } → Formed (send (withClient w c b) m)
+    go : w .used < messages → (b : Client) → b ≡ record { phase = Reading (number (w .used + 1)); kind = kind; entry = entry 0 0 value; given = client w c .given } → Formed (send (withClient w c b) m)
     go l b q = rw q (send-client w c _ m (formed-client (sends l) c (i .low) (i .high) _ (fits l)))
 
 -- ---- take
@@ -346,25 +359,24 @@ toWrite-fits : (c : Client) (who : ℕ) (e : Entry) → IsClient who → entryFi
 unfolding toWrite countLeft entryFits
 toWrite-fits c who e i f g l = go (eqb (c .kind) WRITES) l
   where
-    go : (b : Bool) → (not b || ltb (countOf e) lastCount) ≡ true → entryFits (if b (entry (countOf e + 1) who (c .entry .value)) e) ≡ true
+    go : (b : Bool) → (not b || leb (nextCount c e) lastCount) ≡ true → entryFits (if b (entry (nextCount c e) who (c .entry .value)) e) ≡ true
     go true k =
-        let n : countOf e < lastCount = ltb-true _ _ k in
-        and-both _ _ (lt-ltb (countOf e + 1) (2 ^ 32) (omega arith))
+        let n : nextCount c e ≤ lastCount = leb-true _ _ k in
+        and-both _ _ (lt-ltb (nextCount c e) (2 ^ 32) (omega arith))
         (and-both _ _ (le-leb who clients (i .high)) (and-right (leb (writerOf (c .entry)) clients) _ (and-right (ltb (countOf (c .entry)) (2 ^ 32)) _ f)))
     go false k = g
+
+givenBy-fits : (c : Client) (e : Entry) → ltb (c .given .0) (2 ^ 32) ≡ true → countLeft c e ≡ true → ltb (givenBy c e .0) (2 ^ 32) ≡ true
+unfolding givenBy countLeft
+givenBy-fits c e f l = go (eqb (c .kind) WRITES) l
+  where
+    go : (b : Bool) → (not b || leb (nextCount c e) lastCount) ≡ true → ltb ((if b (record { 0 = nextCount c e }) (c .given)) .0) (2 ^ 32) ≡ true
+    go true k = let n : nextCount c e ≤ lastCount = leb-true _ _ k in lt-ltb (nextCount c e) (2 ^ 32) (omega arith)
+    go false k = f
 
 same-refl : (e : Entry) → same e e ≡ true
 unfolding same
 same-refl e = and-both _ _ (eq-eqb (countOf e) (countOf e) refl) (and-both _ _ (eq-eqb (writerOf e) (writerOf e) refl) (eq-eqb (e .value) (e .value) refl))
-
--- the clause of a client
-record Client-of (w : World) (c : ℕ) : Type 0 where
-  entry : entryFits (client w c .entry) ≡ true
-  phase : phaseFits w c (client w c) (client w c .phase) ≡ true
-
-client-of : {w : World} → Formed w → (c : ℕ) → IsClient c → Client-of w c
-unfolding clientFits
-client-of {w} h c i = let e = h .client c (i .low) (i .high) in record { entry = and-left _ _ e; phase = and-right (entryFits (client w c .entry)) _ e }
 
 refused-done : {A B : Type 0} {n : ℕ} {v : A} → _≡_ {A = Result A} (refused n) (done v) → B
 refused-done e = let z : _≡_ {A = ℕ} 0 1 = cc in absurd (omega arith)
@@ -378,8 +390,9 @@ linked-room w k l = omega (arith, linked-used w k)
 
 -- a client's WRITE is sent
 wrote-kept : {w : World} → Formed w → {c : ℕ} → IsClient c → (a : Client) → w .used < messages → a .phase ≡ Writing (number (w .used + 1)) → within WRITES READS (a .kind) ≡ true → entryFits (a .entry) ≡ true
-    → Formed (send (withClient w c a) (request WRITE c 0 (a .entry)))
-wrote-kept {w} h {c} i a l p k f = send-client w c a m (formed-client (formed-send h m l (client-message w c WRITE (a .entry) i (inr refl) refl f) refl refl) c (i .low) (i .high) a fits)
+    → ltb (a .given .0) (2 ^ 32) ≡ true → Formed (send (withClient w c a) (request WRITE c 0 (a .entry)))
+unfolding clientRange
+wrote-kept {w} h {c} i a l p k f g = send-client w c a m (formed-client (formed-send h m l (client-message w c WRITE (a .entry) i (inr refl) refl f) refl refl) c (i .low) (i .high) a fits)
   where
     m : Message
     m = request WRITE c 0 (a .entry)
@@ -389,12 +402,12 @@ wrote-kept {w} h {c} i a l p k f = send-client w c a m (formed-client (formed-se
 
     fits : clientOk (send w m) c a ≡ true
     fits =
-        and-both _ _ f
+        and-both _ _ (and-both _ _ f g)
         (subst (λ (x : Phase). phaseFits (send w m) c a x ≡ true) (sym p)
         (and-both _ _ k (and-both _ _ (new-sent h m l WRITE c refl refl) (ap (λ (x : Message). same (a .entry) (x .entry)) new ∙ same-refl (a .entry)))))
 
 -- an operation is complete
-ended-fits : (w : World) (c : ℕ) (a : Client) → a .phase ≡ Idle → within WRITES READS (a .kind) ≡ true → entryFits (a .entry) ≡ true → clientOk w c a ≡ true
+ended-fits : (w : World) (c : ℕ) (a : Client) → a .phase ≡ Idle → within WRITES READS (a .kind) ≡ true → clientRange a ≡ true → clientOk w c a ≡ true
 ended-fits w c a p k f =
     let (l, u) = within-true WRITES READS (a .kind) k in
     and-both _ _ f
@@ -438,7 +451,7 @@ module _ {w : World} (h : Formed w) {k r : ℕ} (u : Untaken w k r) where
 
   -- a phase of client c closes
   closes-kept : (c : ℕ) → IsClient c → (t : ℕ) (a : After) → closes w k c (chosen (shown w t (takenWith w k))) ≡ done a → Formed (a .world)
-  unfolding closes close
+  unfolding closes close clientRange
   closes-kept c i t a e = let g = went _ _ _ e in go (client w c .phase) refl (g .value) (g .is) (g .on)
     where
       e′ : Entry
@@ -459,13 +472,14 @@ module _ {w : World} (h : Formed w) {k r : ℕ} (u : Untaken w k r) where
           subst (λ (z : After). Formed (z .world)) (done-is e1)
           (wrote-kept formed-linked i (x .client) (linked-room w k (room-left w l)) (ap (λ (z : Close). z .client .phase) d ∙ ap (λ (n : ℕ). Writing (number (n + 1))) (sym (linked-used w k)))
           (ap (λ (z : Close). within WRITES READS (z .client .kind)) d ∙ and-left (within WRITES READS (client w c .kind)) _ (rw p at (o .phase)))
-          (ap (λ (z : Close). entryFits (z .client .entry)) d ∙ toWrite-fits (client w c) c e′ i (o .entry) (chosen-taken t) n))
+          (ap (λ (z : Close). entryFits (z .client .entry)) d ∙ toWrite-fits (client w c) c e′ i (o .entry) (chosen-taken t) n)
+          (ap (λ (z : Close). ltb (z .client .given .0) (2 ^ 32)) d ∙ givenBy-fits (client w c) e′ (o .given) n))
       go (Writing q) p x f e =
           let d = is-done f in
           subst (λ (z : After). Formed (z .world)) (done-is (rw (ap (λ (z : Close). z .complete) d) at e))
           (formed-client formed-linked c (i .low) (i .high) (x .client)
           (ended-fits (link w k) c (x .client) (ap (λ (z : Close). z .client .phase) d) (ap (λ (z : Close). within WRITES READS (z .client .kind)) d ∙ and-left (within WRITES READS (client w c .kind)) _ (rw p at (o .phase)))
-          (ap (λ (z : Close). entryFits (z .client .entry)) d ∙ o .entry)))
+          (and-both _ _ (ap (λ (z : Close). entryFits (z .client .entry)) d ∙ o .entry) (ap (λ (z : Close). ltb (z .client .given .0) (2 ^ 32)) d ∙ o .given))))
 
   -- the END of the newest view closes
   starts-kept : (q : MessageNumber) → w .administrator .ending ≡ EndSent q → (t : ℕ) (a : After) → starts w k (chosen (shown w t (takenWith w k))) ≡ done a → Formed (a .world)
@@ -577,10 +591,22 @@ newView-kept {w} h v a e =
         send-call w b (newest w + 1) v m
         (call-kept w m f v b z n (ap (λ (x : Administrator). x .newest) q) (w .used + 1) (ap (λ (x : Administrator). x .ending) q) s (new-sent h m l END 0 refl refl) (ap (λ (x : Message). x .view .0) new))
 
+-- ---- giving up
+
+givesUp-kept : {w : World} → Formed w → {c : ℕ} → IsClient c → (a : After) → givesUp w c ≡ done a → Formed (a .world)
+unfolding givesUp giveUp clientRange same
+givesUp-kept {w} h {c} i a e =
+    let g = went _ _ _ e in
+    let (n, f) = passed _ _ _ _ (g .is) in
+    subst (λ (x : After). Formed (x .world)) (done-is (g .on)) (go (g .value) (is-done f))
+  where
+    go : (b : Client) → b ≡ record { phase = Idle; kind = NONE; entry = empty; given = client w c .given } → Formed (withClient w c b)
+    go b q = rw q (formed-client h c (i .low) (i .high) _ (and-both _ _ (and-both _ _ empty-fits (client-of h c i .given)) refl))
+
 -- ---- every step
 
 formed-step : {w : World} → Formed w → (st : Step) (a : After) → step w st ≡ done a → Formed (a .world)
-unfolding step uses
+unfolding step rowOf
 formed-step {w} h st a e =
     let (f, e1) = passed _ _ _ _ e in
     by-kind w st f (λ x. x ≡ done a → Formed (a .world))
@@ -591,6 +617,7 @@ formed-step {w} h st a e =
     (λ q. fault-kept h (who-server st faultStep f q refl refl) a)
     (λ q. lie-kept h (who-server st falseStep f q refl refl) (st .view .0) (st .message .0) (st .source .0) a)
     (λ q. newView-kept h (viewAsked st) a)
+    (λ q. givesUp-kept h (who-client st giveUpStep f q refl) a)
     e1
 
 -- Every accepted step keeps a world readable.

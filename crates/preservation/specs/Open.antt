@@ -11,12 +11,11 @@ use Rattle.protocol.specs.declared.Ending.{Ending}
 use Rattle.protocol.specs.declared.Ending.the-variants.{Settled, EndSent}
 use Rattle.protocol.specs.Tools.{if, within}
 use Rattle.protocol.specs.Sizes.{clients, views}
-use Rattle.protocol.specs.Entries.{entryFits}
 use Rattle.protocol.specs.Servers.{READ, WRITE, END, isRequest}
 use Rattle.protocol.specs.Clients.{WRITES, READS, requestOf, endOf}
 use Rattle.protocol.specs.Worlds.{World, client, message, newest, present}
 use Rattle.protocol.specs.Steps.{open?}
-use Rattle.protocol.specs.Readable.{isSent, phaseFits, clientFits, endingFits, wellFormed}
+use Rattle.protocol.specs.Readable.{isSent, phaseFits, clientRange, clientFits, endingFits, wellFormed}
 use Rattle.protocol.specs.Laws.Tests.{and-left, and-right, within-true}
 use Rattle.protocol.specs.Laws.Formed.{Formed, formed}
 use Rattle.preservation.specs.Updates.{present-is}
@@ -39,7 +38,7 @@ module _ (w : World) (h : Formed w) (r : ℕ) (p : present w r ≡ true) where
 
   open-phase : (c : ℕ) → 1 ≤ c → c ≤ clients → requestOf (client w c .phase) ≡ r → open? w r ≡ true
   unfolding clientFits
-  open-phase c l u q = go (client w c .phase) q (and-right (entryFits (client w c .entry)) _ (h .client c l u))
+  open-phase c l u q = go (client w c .phase) q (and-right (clientRange (client w c)) _ (h .client c l u))
     where
       asked : (n k : ℕ) → (k ≡ END → ⊥) → n ≡ r → isSent w n k c ≡ true → open? w r ≡ true
       asked n k ne e f = let (i, j) = sent-kind w n k c f in opened k c ne (subst (λ (x : ℕ). message w x .kind ≡ k) e i) (subst (λ (x : ℕ). message w x .sender ≡ c) e j) q

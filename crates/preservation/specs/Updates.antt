@@ -29,7 +29,7 @@ use Rattle.protocol.specs.Clients.{number, advance}
 use Rattle.protocol.specs.Worlds.{World, noMessage, view, server, client, message, newest, present, withServer, withClient, withView, withMessage, withAdministrator, send}
 use Rattle.protocol.specs.Chains.{follow, chain}
 use Rattle.protocol.specs.Steps.{link}
-use Rattle.protocol.specs.Readable.{isSent, endingFits, lastView, viewFits, serverFits, phaseFits, clientFits, tagRule, requestFits, nextFits, entryZero, senderFits, sentFits, zeroMessage, messageFits, takenAnswer, distinct}
+use Rattle.protocol.specs.Readable.{isSent, endingFits, lastView, viewFits, serverFits, phaseFits, clientRange, clientFits, tagRule, requestFits, nextFits, entryZero, senderFits, sentFits, zeroMessage, messageFits, takenAnswer, distinct}
 use Rattle.protocol.specs.Laws.Tests.{and-left, and-right, and-both, clash, within-true}
 use Rattle.protocol.specs.Laws.Worlds.{content, sent, length-replace, message-new, sent-send, sent-link, server-same, server-other, client-same, client-other, view-same, view-other}
 use Rattle.protocol.specs.Laws.Sound.{link-count, link-used}
@@ -115,9 +115,9 @@ unfolding viewFits
 views-kept w v t e l f = rw (e, l) f
 
 -- a client's record that fits in w fits in a later world
-fits-client : {w v : World} → Onward w v → (c : ℕ) (a : Client) → client v c ≡ a → (entryFits (a .entry) && phaseFits w c a (a .phase)) ≡ true → clientFits v c ≡ true
+fits-client : {w v : World} → Onward w v → (c : ℕ) (a : Client) → client v c ≡ a → (clientRange a && phaseFits w c a (a .phase)) ≡ true → clientFits v c ≡ true
 unfolding clientFits
-fits-client o c a q e = rw q (and-then (entryFits (a .entry)) _ _ (phase-on o c a (a .phase)) e)
+fits-client o c a q e = rw q (and-then (clientRange a) _ _ (phase-on o c a (a .phase)) e)
 
 keep-client : {w v : World} → Onward w v → (c : ℕ) → client v c ≡ client w c → clientFits w c ≡ true → clientFits v c ≡ true
 unfolding clientFits
@@ -176,7 +176,7 @@ formed-server {w} h s l u b e =
 
 -- a client's record in w
 abbrev pub clientOk : World → ℕ → Client → Bool
-clientOk w c a = entryFits (a .entry) && phaseFits w c a (a .phase)
+clientOk w c a = clientRange a && phaseFits w c a (a .phase)
 
 pub formed-client : {w : World} → Formed w → (c : ℕ) → 1 ≤ c → c ≤ clients → (a : Client) → clientOk w c a ≡ true → Formed (withClient w c a)
 unfolding withClient server client

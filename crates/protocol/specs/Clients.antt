@@ -2,11 +2,11 @@
 use Prim.Native.Nat.{ℕ, _+_}
 use mathlib.Core.Bool.{Bool, true, false, not, _&&_, _||_}
 use mathlib.Core.Option.{Option, none, some}
-use lib.Dec.{ltb, eqb}
-use Rattle.protocol.specs.Types.{MessageNumber, Entry, View, Phase, Idle, Reading, Writing, Client, Ending, Settled, EndSent, Administrator, Begun, BeginRefused, Began, Taken, Open, Closed, Closing, CloseRefused, WritesNext, Completed, Called, CallRefused, Calling}
+use lib.Dec.{ltb, leb, eqb}
+use Rattle.protocol.specs.Types.{StampCount, MessageNumber, Entry, View, Phase, Idle, Reading, Writing, Client, Ending, Settled, EndSent, Administrator, Begun, BeginRefused, Began, GivenUp, GiveUpRefused, GaveUp, Taken, Open, Closed, Closing, CloseRefused, WritesNext, Completed, Called, CallRefused, Calling}
 use Rattle.protocol.specs.Tools.{if, Result, refused, done, guard}
 use Rattle.protocol.specs.Sizes.{views, lastCount, sized, readSize, writeSize}
-use Rattle.protocol.specs.Entries.{entry, countOf}
+use Rattle.protocol.specs.Entries.{entry, empty, countOf}
 
 -- "kind u8 (0 none yet, 1 write, 2 read)"
 abbrev pub NONE : ℕ
@@ -37,7 +37,7 @@ requestOf (Writing r) = r .0
 -- "4, client not idle"; "in phase 1 of a write only its value is set, of a read it is zero"
 unfoldable pub begin : Client → ℕ → ℕ → ℕ → Result Client
 begin c kind value n =
-    guard (isIdle (c .phase)) 4 (done (record { phase = Reading (number n); kind = kind; entry = entry 0 0 value }))
+    guard (isIdle (c .phase)) 4 (done (record { phase = Reading (number n); kind = kind; entry = entry 0 0 value; given = c .given }))
 
 -- the answers that close a phase
 abbrev pub closeSize : Phase → View → ℕ
@@ -45,13 +45,21 @@ closeSize Idle v = writeSize v
 closeSize (Reading r) v = readSize v
 closeSize (Writing r) v = writeSize v
 
--- "A reader writes the chosen entry back. A writer writes (count+1, own number, its value)."
-unfoldable pub toWrite : Client → ℕ → Entry → Entry
-toWrite c who e = if (eqb (c .kind) WRITES) (entry (countOf e + 1) who (c .entry .value)) e
+-- "the count is one above the larger of the count read and the largest this client ever gave a write of its own"
+unfoldable pub nextCount : Client → Entry → ℕ
+nextCount c e = if (ltb (countOf e) (c .given .0)) (c .given .0) (countOf e) + 1
 
--- "11, the closing write would need a count over 4,294,967,295"
+-- "A reader writes the chosen entry back. A writer writes (count, own number, its value)."
+unfoldable pub toWrite : Client → ℕ → Entry → Entry
+toWrite c who e = if (eqb (c .kind) WRITES) (entry (nextCount c e) who (c .entry .value)) e
+
+-- "The client record ends with the latter": the largest count that it ever gave, once READ closed with the entry e
+unfoldable pub givenBy : Client → Entry → StampCount
+givenBy c e = if (eqb (c .kind) WRITES) (record { 0 = nextCount c e }) (c .given)
+
+-- "11, the closing write would need a count over 4,294,967,295"; "11 is judged on the new count"
 unfoldable pub countLeft : Client → Entry → Bool
-countLeft c e = not (eqb (c .kind) WRITES) || ltb (countOf e) lastCount
+countLeft c e = not (eqb (c .kind) WRITES) || leb (nextCount c e) lastCount
 
 -- the client after its phase closed, and whether its operation is complete
 pub record Close : Type 0 where
@@ -63,12 +71,16 @@ abbrev pub closeBy : Phase → Client → ℕ → Entry → ℕ → Result Close
 closeBy Idle c who e n = refused 7
 closeBy (Reading r) c who e n =
     guard (countLeft c e) 11
-    (done (record { client = record { phase = Writing (number n); kind = c .kind; entry = toWrite c who e }; complete = false }))
+    (done (record { client = record { phase = Writing (number n); kind = c .kind; entry = toWrite c who e; given = givenBy c e }; complete = false }))
 closeBy (Writing r) c who e n =
-    done (record { client = record { phase = Idle; kind = c .kind; entry = c .entry }; complete = true })
+    done (record { client = record { phase = Idle; kind = c .kind; entry = c .entry; given = c .given }; complete = true })
 
 unfoldable pub close : Client → ℕ → Entry → ℕ → Result Close
 close c who e n = closeBy (c .phase) c who e n
+
+-- "makes an open phase idle, with kind 0, request 0 and the empty entry"; "12, the client is idle"
+unfoldable pub giveUp : Client → Result Client
+giveUp c = guard (not (isIdle (c .phase))) 12 (done (record { phase = Idle; kind = NONE; entry = empty; given = c .given }))
 
 -- "END number u16 (0 unless ending)"
 abbrev pub endOf : Ending → ℕ
@@ -94,6 +106,10 @@ advance a = record { newest = record { 0 = a .newest .0 + 1 }; ending = Settled 
 abbrev pub begun : Begun → Result Client
 begun (BeginRefused n) = refused n
 begun (Began c) = done c
+
+abbrev pub givenUp : GivenUp → Result Client
+givenUp (GiveUpRefused n) = refused n
+givenUp (GaveUp c) = done c
 
 abbrev pub taken : Taken → Option Entry
 taken Open = none

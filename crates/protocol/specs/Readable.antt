@@ -81,8 +81,12 @@ phaseFits w c a Idle = idleRule a
 phaseFits w c a (Reading r) = readingRule a (isSent w (r .0) READ c)
 phaseFits w c a (Writing r) = kindRule (a .kind) && (isSent w (r .0) WRITE c && same (a .entry) (message w (r .0) .entry))
 
+-- the ranges of its entry and of the largest count that it gave
+unfoldable pub clientRange : Client → Bool
+clientRange a = entryFits (a .entry) && ltb (a .given .0) (2 ^ 32)
+
 unfoldable pub clientFits : World → ℕ → Bool
-clientFits w c = entryFits (client w c .entry) && phaseFits w c (client w c) (client w c .phase)
+clientFits w c = clientRange (client w c) && phaseFits w c (client w c) (client w c .phase)
 
 -- "sender u8 (client; administrator 0; server for an answer)"
 abbrev pub senderFits : ℕ → ℕ → Bool

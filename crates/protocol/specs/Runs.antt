@@ -1,6 +1,6 @@
 -- Journals, runs and their operations. Assumes nothing.
 use Prim.Native.Nat.{ℕ, _+_, _*_}
-use mathlib.Core.Bool.{Bool, _&&_, _||_}
+use mathlib.Core.Bool.{Bool, true, not, _&&_, _||_}
 use mathlib.Core.Option.{Option, none, some}
 use mathlib.Core.List.{List, [], _∷_, _++_, map}
 use lib.ListN.{length, getD}
@@ -8,7 +8,7 @@ use lib.Dec.{ltb, eqb}
 use Rattle.protocol.specs.Types.{Entry, Phase, Idle, Reading, Writing, Step}
 use Rattle.protocol.specs.Tools.{if, Result, refused, done, guard}
 use Rattle.protocol.specs.Entries.{empty}
-use Rattle.protocol.specs.Clients.{WRITES, READS, number}
+use Rattle.protocol.specs.Clients.{WRITES, READS, number, isIdle}
 use Rattle.protocol.specs.Worlds.{World, client, message}
 use Rattle.protocol.specs.Steps.{After, step}
 use Rattle.protocol.specs.Consistent.{Operation}
@@ -87,13 +87,14 @@ unfoldable pub replay : World → List (List ℕ) → Replayed
 replay w [] = record { world = w; steps = 0; refusal = 0 }
 replay w (b ∷ bs) = onward (stepBytes w b) (record { world = w; steps = 0; refusal = 0 }) (λ v. replay v bs)
 
--- An operation as a run finds it: the places of the steps that begin and end it ("without one it is unfinished": 0), the
--- numbers of its READ and, once it is sent, of its WRITE, and the entry in its client's record after it ended
+-- An operation as a run finds it: the places of the steps that begin and end it ("without one it is unfinished": 0), whether its
+-- client is still at it, the numbers of its READ and, once it is sent, of its WRITE, and the entry in its client's record after it ended
 pub record Tracked : Type 0 where
   pub client : ℕ
   pub kind : ℕ
   pub begin : ℕ
   pub end : ℕ
+  pub active : Bool
   pub read : ℕ
   pub write : ℕ
   pub entry : Entry
@@ -104,18 +105,20 @@ sentWrite Idle n = n
 sentWrite (Reading r) n = n
 sentWrite (Writing r) n = r .0
 
--- an operation after the accepted step at place i, which led to v and completed that of client c
 abbrev pub unfinished : Tracked → Bool
 unfinished o = eqb (o .end) 0
 
+-- an operation after the accepted step at place i, which led to v and completed that of client c. An active one stays so until its
+-- client is idle: completed, or given up, when "its operation counts as unfinished"
 unfoldable pub tracked : World → ℕ → ℕ → Tracked → Tracked
 tracked v i c o =
-    if (unfinished o)
+    if (o .active)
     (record {
       client = o .client;
       kind = o .kind;
       begin = o .begin;
       end = if (eqb (o .client) c) i 0;
+      active = not (isIdle (client v (o .client) .phase));
       read = o .read;
       write = sentWrite (client v (o .client) .phase) (o .write);
       entry = if (eqb (o .client) c) (client v c .entry) empty;
@@ -126,7 +129,7 @@ tracked v i c o =
 abbrev pub started : World → ℕ → Step → List Tracked
 started v i st =
     if (eqb (st .kind) WRITES || eqb (st .kind) READS)
-    (record { client = st .who; kind = st .kind; begin = i; end = 0; read = v .used; write = 0; entry = empty } ∷ [])
+    (record { client = st .who; kind = st .kind; begin = i; end = 0; active = true; read = v .used; write = 0; entry = empty } ∷ [])
     []
 
 -- a run: its world, the place of its next step, and its operations in the order of their beginning

@@ -1,7 +1,7 @@
 -- Runs computed on the definitions: they are about something. Assumes nothing.
 use Prim.Native.Nat.{ℕ}
 use mathlib.Core.Bool.{Bool, true, false}
-use mathlib.Core.Option.{some}
+use mathlib.Core.Option.{none, some}
 use mathlib.Core.Path.{_≡_, refl}
 use mathlib.Core.List.{List, [], _∷_, _++_}
 use Rattle.protocol.specs.Types.{Entry, Reading, Writing}
@@ -9,10 +9,10 @@ use Rattle.protocol.specs.Tools.{countTo, allTo, any, holds, bitOf, nth,
 use Rattle.protocol.specs.Sizes.{viewWith, quorum, size, sized, readSize, writeSize}
 use Rattle.protocol.specs.Entries.{entry, empty, below, larger, largest, chosen}
 use Rattle.protocol.specs.Servers.{WRITE, keeping, withoutKey, joining, gathering, serve, mayAnswer}
-use Rattle.protocol.specs.Clients.{WRITES, READS, number, begin, toWrite, countLeft, close, call, advance}
+use Rattle.protocol.specs.Clients.{WRITES, READS, number, begin, giveUp, nextCount, toWrite, givenBy, countLeft, close, call, advance}
 use Rattle.protocol.specs.Worlds.{World, view, server, client, message, newest, member, present, room, withServer, withClient, withView, withMessage, withAdministrator, send, listTo, freshWorld, fresh, bad, premise}
 use Rattle.protocol.specs.Chains.{follow, chain, heard, enough, shown}
-use Rattle.protocol.specs.Steps.{request, uses, fieldsFit, begins, deliver, link, open?, closes, starts, takes, take, fault, source?, lie, newView, perform, step}
+use Rattle.protocol.specs.Steps.{request, rowOf, fieldsFit, begins, givesUp, deliver, link, open?, closes, starts, takes, take, fault, source?, lie, newView, perform, step}
 use Rattle.protocol.specs.Consistent.{Operation}
 use Rattle.protocol.specs.Runs.{stepOf, stepBytes, Replayed, replay, tracked, Run, run, runFrom, entryOf, operation, history}
 
@@ -43,6 +43,9 @@ false-answer s t n source = bytes 6 s t 0 n source 0
 abbrev pub new-view : ℕ → ℕ → List ℕ
 new-view bits f = bytes 7 0 0 f 0 0 bits
 
+abbrev pub give-up : ℕ → List ℕ
+give-up c = bytes 8 c 0 0 0 0 0
+
 -- ---- what is computed of a run from the fresh world of given members and f
 
 abbrev pub begun : ℕ → ℕ → World
@@ -50,7 +53,7 @@ begun bits f = freshWorld (viewWith bits f)
 
 -- the run; whoever unfolds it unfolds all that a step computes with
 unfoldable pub run-of : ℕ → ℕ → List (List ℕ) → Run
-unfolding freshWorld listTo runFrom run tracked stepOf stepBytes step perform guard uses fieldsFit begins begin deliver serve keeping withoutKey joining gathering take takes link open? closes close toWrite countLeft starts advance fault source? lie mayAnswer newView call enough heard shown chain follow below larger largest quorum size sized readSize writeSize countTo any holds bitOf nth replace view server client message member present room withServer withClient withView withMessage withAdministrator send
+unfolding freshWorld listTo runFrom run tracked stepOf stepBytes step perform guard rowOf fieldsFit begins begin givesUp giveUp deliver serve keeping withoutKey joining gathering take takes link open? closes close nextCount toWrite givenBy countLeft starts advance fault source? lie mayAnswer newView call enough heard shown chain follow below larger largest quorum size sized readSize writeSize countTo any holds bitOf nth replace view server client message member present room withServer withClient withView withMessage withAdministrator send
 run-of bits f steps = runFrom (begun bits f) steps
 
 -- its operations
@@ -210,6 +213,30 @@ kept-operations : operations-of 15 1 (surfaced ++ kept)
     ≡ (operated WRITES 1 0 (entry 1 1 7) ∷ operated READS 9 21 (entry 1 1 7) ∷ operated READS 22 34 (entry 1 1 7) ∷ [])
 unfolding operations-of surfaced kept
 kept-operations = refl
+
+-- ---- given-up work: server 1 alone, f 0
+
+-- Client 1 gives a write of 6 up while it reads, and one of 8 while it writes. It writes 9: its READ shows the empty entry, and its count is
+-- above the one that it gave. The WRITE of 8 arrives late; its answer is refused, and client 2 reads 8. Then the write of 9 ends.
+unfoldable pub given-up : List (List ℕ)
+given-up =
+    write 1 6 ∷ give-up 1 ∷ write 1 8 ∷ deliver-to 2 1 ∷ take-one 3 ∷ give-up 1
+    ∷ write 1 9 ∷ deliver-to 5 1 ∷ take-one 6 ∷ deliver-to 4 1 ∷ take-one 8
+    ∷ read 2 ∷ deliver-to 9 1 ∷ take-one 10 ∷ deliver-to 11 1 ∷ take-one 12 ∷ deliver-to 7 1 ∷ take-one 13 ∷ give-up 1 ∷ []
+
+given-up-history : operations-of 1 0 given-up
+    ≡ (record { kind = WRITES; begin = 1; end = 0; entry = none } ∷ operated WRITES 3 0 (entry 1 1 8) ∷ operated WRITES 7 18 (entry 2 1 9) ∷ operated READS 12 16 (entry 1 1 8) ∷ [])
+unfolding operations-of given-up
+given-up-history = refl
+
+-- The late answer stops the replay (7). "12, the client is idle": nothing is there to give up.
+given-up-stop : stop-of 1 0 given-up ≡ stops 10 7
+unfolding stop-of given-up
+given-up-stop = refl
+
+idle-stop : stop-of 1 0 (give-up 1 ∷ []) ≡ stops 0 12
+unfolding stop-of
+idle-stop = refl
 
 -- ---- other rules that an edit could turn round
 

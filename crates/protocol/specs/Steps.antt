@@ -1,20 +1,20 @@
--- The steps of a world, kinds 1 to 7, each with its refusals in the order tested. Assumes nothing.
+-- The steps of a world, kinds 1 to 8, each with its refusals in the order tested. Assumes nothing.
 use Prim.Native.Nat.{ℕ, _+_, _/_, _%_}
 use mathlib.Core.Bool.{Bool, true, false, not, _&&_, _||_}
 use mathlib.Core.Option.{Option, none, some}
 use mathlib.Core.List.{List, [], _∷_}
 use lib.ListN.{getD}
 use lib.Dec.{eqb}
-use Rattle.protocol.specs.Types.{Entry, View, Server, Message, Step, Shown}
+use Rattle.protocol.specs.Types.{Entry, View, Server, Message, Step, Range, Shown}
 use Rattle.protocol.specs.Tools.{if, within, Result, done, guard, then}
-use Rattle.protocol.specs.Sizes.{clients, servers, views, messages, lastCount, viewWith, writeSize}
+use Rattle.protocol.specs.Sizes.{clients, servers, views, messages, viewWith, writeSize}
 use Rattle.protocol.specs.Entries.{empty, chosen}
 use Rattle.protocol.specs.Servers.{READ, WRITE, END, START, ANSWER, serve, mayAnswer}
-use Rattle.protocol.specs.Clients.{WRITES, READS, number, begin, requestOf, closeSize, close, endOf, call, advance}
+use Rattle.protocol.specs.Clients.{WRITES, READS, number, begin, giveUp, requestOf, closeSize, close, endOf, call, advance}
 use Rattle.protocol.specs.Worlds.{World, view, server, client, message, newest, member, present, room, withServer, withClient, withView, withMessage, withAdministrator, send, nextNumber}
 use Rattle.protocol.specs.Chains.{chain, enough, shown}
 
--- "1 write ... 2 read ... 3 deliver ... 4 take ... 5 fault ... 6 false answer ... 7 new view"
+-- "1 write ... 2 read ... 3 deliver ... 4 take ... 5 fault ... 6 false answer ... 7 new view"; "a new step of kind 8"
 abbrev pub writeStep : ℕ
 writeStep = 1
 
@@ -35,6 +35,9 @@ falseStep = 6
 
 abbrev pub viewStep : ℕ
 viewStep = 7
+
+abbrev pub giveUpStep : ℕ
+giveUpStep = 8
 
 -- the fields that a step may use, a flag each; who is a client or a server
 abbrev pub CLIENT : ℕ
@@ -69,26 +72,72 @@ fieldTable =
     ∷ SERVER
     ∷ (SERVER + VIEW + MESSAGE + SOURCE)
     ∷ (F + VALUE)
+    ∷ CLIENT
     ∷ []
 
-unfoldable pub uses : ℕ → ℕ → Bool
-uses kind flag = eqb (getD fieldTable kind 0 / flag % 2) 1
+unfoldable pub rowOf : ℕ → ℕ
+rowOf kind = getD fieldTable kind 0
+
+-- whether a row has a field; whether a kind uses it
+abbrev pub inRow : ℕ → ℕ → Bool
+inRow row flag = eqb (row / flag % 2) 1
+
+abbrev pub uses : ℕ → ℕ → Bool
+uses kind flag = inRow (rowOf kind) flag
+
+-- the largest u8 and u32
+abbrev pub lastByte : ℕ
+lastByte = 255
+
+abbrev pub lastWord : ℕ
+lastWord = 4294967295
+
+-- "Clients are 1 to 16, servers 1 to 32, views 1 to 32, messages 1 to 1,023." "Any f and value are in range; source is 0 to 1,023."
+abbrev pub range : ℕ → ℕ → Range
+range low high = record { low = low; high = high }
+
+abbrev pub clientRange : Range
+clientRange = range 1 clients
+
+abbrev pub serverRange : Range
+serverRange = range 1 servers
+
+abbrev pub viewRange : Range
+viewRange = range 1 views
+
+abbrev pub thresholdRange : Range
+thresholdRange = range 0 lastByte
+
+abbrev pub messageRange : Range
+messageRange = range 1 messages
+
+abbrev pub sourceRange : Range
+sourceRange = range 0 messages
+
+abbrev pub valueRange : Range
+valueRange = range 0 lastWord
+
+-- who is a client, a server or unused
+abbrev pub whoUsed : ℕ → Bool
+whoUsed row = inRow row CLIENT || inRow row SERVER
+
+abbrev pub whoRange : ℕ → Range
+whoRange row = if (inRow row CLIENT) clientRange serverRange
 
 -- a used field is in its range; "an unused field is zero"
-abbrev pub field : Bool → ℕ → ℕ → ℕ → Bool
-field used low high x = if used (within low high x) (eqb x 0)
+abbrev pub field : Bool → Range → ℕ → Bool
+field used r x = if used (within (r .low) (r .high) x) (eqb x 0)
 
 -- "3, unknown kind, a field out of range or an unused field set" is what fails this.
--- "Any f and value are in range; source is 0 to 1,023."
 unfoldable pub fieldsFit : Step → Bool
 fieldsFit st =
-    within writeStep viewStep (st .kind)
-    && (field (uses (st .kind) CLIENT || uses (st .kind) SERVER) 1 (if (uses (st .kind) CLIENT) clients servers) (st .who)
-    && (field (uses (st .kind) VIEW) 1 views (st .view .0)
-    && (field (uses (st .kind) F) 0 255 (st .f)
-    && (field (uses (st .kind) MESSAGE) 1 messages (st .message .0)
-    && (field (uses (st .kind) SOURCE) 0 messages (st .source .0)
-    && field (uses (st .kind) VALUE) 0 lastCount (st .value))))))
+    within writeStep giveUpStep (st .kind)
+    && (field (whoUsed (rowOf (st .kind))) (whoRange (rowOf (st .kind))) (st .who)
+    && (field (uses (st .kind) VIEW) viewRange (st .view .0)
+    && (field (uses (st .kind) F) thresholdRange (st .f)
+    && (field (uses (st .kind) MESSAGE) messageRange (st .message .0)
+    && (field (uses (st .kind) SOURCE) sourceRange (st .source .0)
+    && field (uses (st .kind) VALUE) valueRange (st .value))))))
 
 -- the world after an accepted step, and the client whose operation it completed, or 0
 pub record After : Type 0 where
@@ -113,6 +162,10 @@ unfoldable pub begins : World → ℕ → ℕ → ℕ → Result After
 begins w c kind value =
     then (begin (client w c) kind value (nextNumber w))
     (λ a. guard (room w) 10 (moved (send (withClient w c a) (request READ c 0 empty))))
+
+-- "Giving up an operation": 12
+unfoldable pub givesUp : World → ℕ → Result After
+givesUp w c = then (giveUp (client w c)) (λ a. moved (withClient w c a))
 
 -- the server's record is kept, and its answer sent: "10 for kinds 1 to 3"
 abbrev pub answers : Option Shown → World → ℕ → ℕ → Server → Result After
@@ -213,7 +266,8 @@ perform w st =
     (if (eqb (st .kind) takeStep) (take w (st .message .0))
     (if (eqb (st .kind) faultStep) (fault w (st .who))
     (if (eqb (st .kind) falseStep) (lie w (st .who) (st .view .0) (st .message .0) (st .source .0))
-    (newView w (viewAsked st)))))))
+    (if (eqb (st .kind) viewStep) (newView w (viewAsked st))
+    (givesUp w (st .who))))))))
 
 -- a step of a world: 3, then by kind
 unfoldable pub step : World → Step → Result After

@@ -17,11 +17,14 @@ pub use Rattle.protocol.specs.declared.Ending.the-variants.{Settled, End
 pub use Rattle.protocol.specs.declared.Administrator.{Administrator}
 pub use Rattle.protocol.specs.declared.Message.{Message}
 pub use Rattle.protocol.specs.declared.Step.{Step}
+pub use Rattle.protocol.specs.declared.Range.{Range}
 pub use Rattle.protocol.specs.declared.Shown.{Shown}
 pub use Rattle.protocol.specs.declared.Served.{Served}
 pub use Rattle.protocol.specs.declared.Served.the-variants.{ServeRefused, Kept, Answered}
 pub use Rattle.protocol.specs.declared.Begun.{Begun}
 pub use Rattle.protocol.specs.declared.Begun.the-variants.{BeginRefused, Began}
+pub use Rattle.protocol.specs.declared.GivenUp.{GivenUp}
+pub use Rattle.protocol.specs.declared.GivenUp.the-variants.{GiveUpRefused, GaveUp}
 pub use Rattle.protocol.specs.declared.Taken.{Taken}
 pub use Rattle.protocol.specs.declared.Taken.the-variants.{Open, Closed}
 pub use Rattle.protocol.specs.declared.Closing.{Closing}

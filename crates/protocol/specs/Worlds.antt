@@ -26,7 +26,7 @@ abbrev pub noServer : Server
 noServer = record { view = record { 0 = 0 }; faulty = false; keys = record { 0 = 0 }; entry = empty }
 
 abbrev pub noClient : Client
-noClient = record { phase = Idle; kind = NONE; entry = empty }
+noClient = record { phase = Idle; kind = NONE; entry = empty; given = record { 0 = 0 } }
 
 abbrev pub noMessage : Message
 noMessage = record { kind = 0; sender = 0; view = record { 0 = 0 }; taken = false; request = number 0; next = number 0; entry = empty }

@@ -49,11 +49,12 @@ pub enum Phase {
     Writing(MessageNumber),
 }
 
-// A client's record; kind is 0 none yet, 1 write, 2 read.
+// A client's record; kind is 0 none yet, 1 write, 2 read; given is the largest count that it ever gave a write of its own.
 pub struct Client {
     pub phase: Phase,
     pub kind: u8,
     pub entry: Entry,
+    pub given: StampCount,
 }
 
 // Whether the newest view is being ended, and by which END.
@@ -79,7 +80,7 @@ pub struct Message {
     pub entry: Entry,
 }
 
-// A step: kind 1 write, 2 read, 3 deliver, 4 take, 5 fault, 6 false answer, 7 new view.
+// A step: kind 1 write, 2 read, 3 deliver, 4 take, 5 fault, 6 false answer, 7 new view, 8 giving up.
 pub struct Step {
     pub kind: u8,
     pub who: u8,
@@ -88,6 +89,12 @@ pub struct Step {
     pub message: MessageNumber,
     pub source: MessageNumber,
     pub value: u32,
+}
+
+// The values that a used field of a step may have.
+pub struct Range {
+    pub low: u32,
+    pub high: u32,
 }
 
 // What an answer shows: its server's view and entry.
@@ -113,6 +120,12 @@ pub enum Begun {
 pub enum Taken {
     Open,
     Closed(Entry),
+}
+
+// A client gives its operation up: a refusal, or its record with the phase idle.
+pub enum GivenUp {
+    GiveUpRefused(u8),
+    GaveUp(Client),
 }
 
 // A client's phase closes: a refusal, a WRITE of its entry is next, or its operation is complete.

@@ -31,3 +31,6 @@ pub const NO_NUMBER: u8 = 10;
 
 // "11, the closing write would need a count over 4,294,967,295"
 pub const NO_COUNT: u8 = 11;
+
+// "12, the client is idle"
+pub const IDLE: u8 = 12;

@@ -12,9 +12,10 @@ use Rattle.protocol.specs.declared.Administrator.{Administrator}
 use Rattle.protocol.specs.declared.Message.{Message}
 use Rattle.protocol.specs.Tools.{if, Result, refused, done, guard, numberOf}
 use Rattle.protocol.specs.Servers.{Reply}
+use Rattle.protocol.specs.Entries.{empty, same}
 use Rattle.protocol.specs.Clients.{Close}
-use Rattle.protocol.specs.Steps.{writeStep, readStep, deliverStep, takeStep, falseStep, viewStep}
-use Rattle.checked.specs.Rules.{serveRule, falseAnswerRule, writeRule, readRule, closeRule, callRule, advanceRule}
+use Rattle.protocol.specs.Steps.{writeStep, readStep, deliverStep, takeStep, falseStep, viewStep, giveUpStep}
+use Rattle.checked.specs.Rules.{serveRule, falseAnswerRule, writeRule, readRule, giveUpRule, closeRule, callRule, advanceRule}
 
 -- the record stays as it is, and nothing is answered by the rule itself
 abbrev pub stays : Server → ℕ → Result Reply
@@ -36,14 +37,22 @@ opens (done c) = done (record { client = c; complete = false })
 abbrev pub blankStamp : Stamp → Bool
 blankStamp s = eqb (s .count .0) 0 && eqb (s .writer) 0
 
+-- giving up: what the rule does not use is zero
+unfoldable pub droppingRule : Client → ℕ → ℕ → Entry → Result Close
+droppingRule c who n e = guard (eqb who 0) 3 (guard (eqb n 0) 3 (guard (same e empty) 3 (opens (giveUpRule c))))
+
 -- 1 write of the entry's value, 2 read, 4 the close with an entry; n is the number of the message that it sends
-unfoldable pub clientRule : Client → ℕ → ℕ → ℕ → Entry → Result Close
-clientRule c rule who n e =
+unfoldable pub operationRule : Client → ℕ → ℕ → ℕ → Entry → Result Close
+operationRule c rule who n e =
     if (eqb rule takeStep) (closeRule c who e n)
     (guard (eqb who 0) 3
     (guard (blankStamp (e .stamp)) 3
     (if (eqb rule writeStep) (opens (writeRule c (e .value) n))
     (guard (eqb rule readStep) 3 (guard (eqb (e .value) 0) 3 (opens (readRule c n)))))))
+
+-- a client's rules: those on an operation, and 8 giving up
+unfoldable pub clientRule : Client → ℕ → ℕ → ℕ → Entry → Result Close
+clientRule c rule who n e = if (eqb rule giveUpStep) (droppingRule c who n e) (operationRule c rule who n e)
 
 -- 7 new view v, END being number n; 4 the close of END
 unfoldable pub administratorRule : Administrator → ℕ → ℕ → View → Result Administrator

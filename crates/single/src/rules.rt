@@ -1,8 +1,8 @@
 // The rules of single machines, chosen by number.
 ghost use mathlib.Core.Path.{_≡_};
 ghost use Rattle.protocol.specs.Servers.{served};
-ghost use Rattle.protocol.specs.Clients.{begun, closing, called};
-ghost use Rattle.single.specs.Rules.{serverRule, clientRule, administratorRule, opens, blankStamp};
+ghost use Rattle.protocol.specs.Clients.{begun, givenUp, closing, called};
+ghost use Rattle.single.specs.Rules.{serverRule, clientRule, operationRule, droppingRule, administratorRule, opens, blankStamp};
 use checked::rules;
 use protocol::Administrator;
 use protocol::Begun;
@@ -10,6 +10,7 @@ use protocol::Called;
 use protocol::Client;
 use protocol::Closing;
 use protocol::Entry;
+use protocol::GivenUp;
 use protocol::Message;
 use protocol::MessageNumber;
 use protocol::Served;
@@ -19,11 +20,13 @@ use protocol::View;
 use protocol::ViewNumber;
 use protocol::kinds::DELIVER_STEP;
 use protocol::kinds::FALSE_STEP;
+use protocol::kinds::GIVE_UP_STEP;
 use protocol::kinds::READ_STEP;
 use protocol::kinds::TAKE_STEP;
 use protocol::kinds::VIEW_STEP;
 use protocol::kinds::WRITE_STEP;
 use protocol::refusals::UNFIT;
+use values::entries::is_empty;
 
 // A server's rules, by the kinds of their steps: 3 deliver, 6 false answer.
 pub fn server_rule(a: Server, m: Message, rule: u8, flag: u8, view: u8) -> Served
@@ -57,6 +60,15 @@ fn opening(b: Begun) -> Closing
     }
 }
 
+fn dropping(g: GivenUp) -> Closing
+    ensures { λ r. ⌜ closing r ≡ opens (givenUp g) ⌝ }
+{
+    match g {
+        GivenUp::GiveUpRefused(x) => Closing::CloseRefused(x),
+        GivenUp::GaveUp(c) => Closing::WritesNext(c),
+    }
+}
+
 fn blank(s: Stamp) -> bool
     ensures { λ r. ⌜ r ≡ blankStamp s ⌝ }
 {
@@ -67,9 +79,25 @@ fn blank(s: Stamp) -> bool
     s.writer == 0
 }
 
-// A client's rules, by the kinds of their steps: 1 write, 2 read, 4 the close by an answer taken.
-pub fn client_rule(c: Client, rule: u8, who: u8, n: MessageNumber, e: Entry) -> Closing
-    ensures { λ r. ⌜ closing r ≡ clientRule c rule who (n .0) e ⌝ }
+// A client's operation is given up. What the rule does not use is zero.
+fn dropping_rule(c: Client, who: u8, n: MessageNumber, e: Entry) -> Closing
+    ensures { λ r. ⌜ closing r ≡ droppingRule c who (n .0) e ⌝ }
+{
+    if who != 0 {
+        return Closing::CloseRefused(UNFIT);
+    }
+    if n.0 != 0 {
+        return Closing::CloseRefused(UNFIT);
+    }
+    if !is_empty(e) {
+        return Closing::CloseRefused(UNFIT);
+    }
+    dropping(rules::give_up_rule(c))
+}
+
+// A client's rules on an operation, by the kinds of their steps: 1 write, 2 read, 4 the close by an answer taken.
+fn operation_rule(c: Client, rule: u8, who: u8, n: MessageNumber, e: Entry) -> Closing
+    ensures { λ r. ⌜ closing r ≡ operationRule c rule who (n .0) e ⌝ }
 {
     if rule == TAKE_STEP {
         return rules::close_rule(c, who, e, n);
@@ -91,6 +119,16 @@ pub fn client_rule(c: Client, rule: u8, who: u8, n: MessageNumber, e: Entry) -> 
         return Closing::CloseRefused(UNFIT);
     }
     opening(rules::read_rule(c, n))
+}
+
+// A client's rules, by the kinds of their steps: those on an operation, and 8 giving up.
+pub fn client_rule(c: Client, rule: u8, who: u8, n: MessageNumber, e: Entry) -> Closing
+    ensures { λ r. ⌜ closing r ≡ clientRule c rule who (n .0) e ⌝ }
+{
+    if rule == GIVE_UP_STEP {
+        return dropping_rule(c, who, n, e);
+    }
+    operation_rule(c, rule, who, n, e)
 }
 
 // The administrator's rules, by the kinds of their steps: 7 new view, 4 the close of END by an answer taken.

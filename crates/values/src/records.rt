@@ -24,7 +24,7 @@ ghost use mathlib.Core.Path.{_≡_};
 ghost use Prim.Native.Nat.{_^_};
 ghost use lib.Dec.{ltb};
 ghost use Rattle.protocol.specs.Tools.{within};
-ghost use Rattle.protocol.specs.Readable.{viewRule, keyRule, serverRule, idleRule, kindRule, askingRule, readingRule};
+ghost use Rattle.protocol.specs.Readable.{viewRule, keyRule, serverRule, clientRange, idleRule, kindRule, askingRule, readingRule};
 ghost use Rattle.protocol.specs.Readable.{senderFits, tagRule, requestRule, nextFits, entryZero, messageRule, zeroMessage};
 
 // The number of a message: 1 to the last.
@@ -104,6 +104,14 @@ pub fn server_fits(s: Server, newest: ViewNumber) -> bool
     if !key_fits(s) {
         return false;
     }
+    entries::entry_fits(entry)
+}
+
+// The ranges of a client's entry and of the largest count that it gave, which may be any.
+pub fn client_range(a: Client) -> bool
+    ensures { λ r. ⌜ r ≡ clientRange a ⌝ }
+{
+    let entry = a.entry;
     entries::entry_fits(entry)
 }
 

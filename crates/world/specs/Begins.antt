@@ -1,18 +1,21 @@
--- A client begins an operation on a readable image. Assumes nothing.
+-- A client begins an operation on a readable image (`begins-no`, `begins-full`, `begins-done`), or gives it up (`gives-up-no`,
+-- `gives-up-done`). Assumes nothing.
 use Prim.Native.Nat.{ℕ, _+_, _≤_, _<_}
 use native.Mathlib.Omega.{arith}
 use mathlib.Core.Path.{_≡_, refl, sym, ap, ap₂, _∙_}
 use mathlib.Core.List.{List}
 use Rattle.protocol.specs.declared.Client.{Client}
+use Rattle.protocol.specs.declared.GivenUp.{GivenUp}
+use Rattle.protocol.specs.declared.GivenUp.the-variants.{GiveUpRefused, GaveUp}
 use Rattle.protocol.specs.declared.Begun.{Begun}
 use Rattle.protocol.specs.declared.Begun.the-variants.{BeginRefused, Began}
 use Rattle.protocol.specs.Tools.{guard}
 use Rattle.protocol.specs.Sizes.{clients}
 use Rattle.protocol.specs.Entries.{empty}
 use Rattle.protocol.specs.Servers.{READ}
-use Rattle.protocol.specs.Clients.{begin, begun}
+use Rattle.protocol.specs.Clients.{begin, begun, giveUp, givenUp}
 use Rattle.protocol.specs.Worlds.{World, client, withClient, send, nextNumber}
-use Rattle.protocol.specs.Steps.{request, begins}
+use Rattle.protocol.specs.Steps.{request, begins, givesUp}
 use Rattle.codec.specs.Places.{usedAt, clientAt, putClient}
 use Rattle.codec.specs.Images.{decode}
 use Rattle.world.specs.declared.Stepped.the-variants.{StepRefused, StepDone}
@@ -45,3 +48,15 @@ module _ {l : List ℕ} (h : Legible l) (c kind value : ℕ) (a : 1 ≤ c) (b : 
     where
       same-used : u ≡ decode l .used → u + 1 ≡ withClient (decode l) c x .used + 1
       same-used z = kept-used (decode l) c x u z
+
+module _ {l : List ℕ} (h : Legible l) (c : ℕ) (a : 1 ≤ c) (b : c ≤ clients) (own : Client) (r : GivenUp) (p : own ≡ clientAt l c) (e : givenUp r ≡ giveUp own) where
+  given : giveUp (client (decode l) c) ≡ givenUp r
+  given = sym (e ∙ ap giveUp (p ∙ client-is h c a b))
+
+  pub gives-up-no : (x : ℕ) → r ≡ GiveUpRefused x → Does (StepRefused x) l l (givesUp (decode l) c)
+  unfolding givesUp
+  gives-up-no x f = refuses _ x l _ refl (rw (given, f) refl)
+
+  pub gives-up-done : (x : Client) (l′ : List ℕ) → r ≡ GaveUp x → l′ ≡ putClient l c x → Does (StepDone 0) l l′ (givesUp (decode l) c)
+  unfolding givesUp
+  gives-up-done x l′ f d = does 0 (withClient (decode l) c x) l l′ _ (rw (given, f) refl) (d ∙ with-client (image-of h) c a b x .is)

@@ -2,7 +2,6 @@ pub mod Images
 pub mod Stored
 pub mod Begins
 pub mod Delivers
-pub mod Checks
 pub mod Puts
 pub mod Views
 pub mod Takes

@@ -10,7 +10,7 @@ use Rattle.protocol.specs.declared.Step.{Step}
 use Rattle.protocol.specs.Tools.{guard}
 use Rattle.protocol.specs.Clients.{WRITES, READS}
 use Rattle.protocol.specs.Worlds.{World}
-use Rattle.protocol.specs.Steps.{begins, deliver, take, fault, lie, newView, fieldsFit, perform, step, viewAsked}
+use Rattle.protocol.specs.Steps.{begins, deliver, take, fault, lie, newView, givesUp, fieldsFit, perform, step, viewAsked}
 use Rattle.protocol.specs.Runs.{stepWidth, stepOf}
 use Rattle.codec.specs.Layout.{imageSize}
 use Rattle.codec.specs.Images.{decode}
@@ -49,10 +49,15 @@ module _ (w : World) (st : Step) where
   unfolding perform
   as-false e = rw (sym (kind-is 6 1 e), sym (kind-is 6 2 e), sym (kind-is 6 3 e), sym (kind-is 6 4 e), sym (kind-is 6 5 e), sym (kind-is 6 6 e)) refl
 
-  pub as-view : (st .kind ≡ 1 → ⊥) → (st .kind ≡ 2 → ⊥) → (st .kind ≡ 3 → ⊥) → (st .kind ≡ 4 → ⊥) → (st .kind ≡ 5 → ⊥) → (st .kind ≡ 6 → ⊥)
-      → perform w st ≡ newView w (viewAsked st)
+  pub as-view : st .kind ≡ 7 → perform w st ≡ newView w (viewAsked st)
   unfolding perform
-  as-view a b c d e f = rw (ne-eqb (st .kind) 1 a, ne-eqb (st .kind) 2 b, ne-eqb (st .kind) 3 c, ne-eqb (st .kind) 4 d, ne-eqb (st .kind) 5 e, ne-eqb (st .kind) 6 f) refl
+  as-view e =
+      rw (sym (kind-is 7 1 e), sym (kind-is 7 2 e), sym (kind-is 7 3 e), sym (kind-is 7 4 e), sym (kind-is 7 5 e), sym (kind-is 7 6 e), sym (kind-is 7 7 e)) refl
+
+  pub as-give-up : st .kind ≡ 8 → perform w st ≡ givesUp w (st .who)
+  unfolding perform
+  as-give-up e =
+      rw (sym (kind-is 8 1 e), sym (kind-is 8 2 e), sym (kind-is 8 3 e), sym (kind-is 8 4 e), sym (kind-is 8 5 e), sym (kind-is 8 6 e), sym (kind-is 8 7 e)) refl
 
 -- ---- check 3
 

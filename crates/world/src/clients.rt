@@ -1,7 +1,7 @@
-// A client begins an operation.
+// A client begins an operation, or gives it up.
 ghost use Prim.Native.Nat.{_≤_};
 ghost use Rattle.protocol.specs.Sizes.{clients};
-ghost use Rattle.protocol.specs.Steps.{begins as beginsOn};
+ghost use Rattle.protocol.specs.Steps.{begins as beginsOn, givesUp};
 ghost use Rattle.codec.specs.Images.{decode};
 ghost use Rattle.world.specs.Images.{Legible, Does};
 use super::Stepped;
@@ -11,7 +11,9 @@ use codec::places::load_client;
 use codec::places::load_used;
 use codec::places::store_client;
 use machines::clients::begin;
+use machines::clients::give_up;
 use protocol::Begun;
+use protocol::GivenUp;
 use protocol::MessageNumber;
 use protocol::StampCount;
 use protocol::ViewNumber;
@@ -37,6 +39,22 @@ pub fn begins(image: &mut [u8], c: u8, kind: u8, value: u32) -> Stepped
             let read = request(READ, c, ViewNumber(0), entry_of(StampCount(0), 0, 0));
             store_client(image, c, next);
             send(image, n, read);
+            Stepped::StepDone(0)
+        }
+    }
+}
+
+// "Giving up an operation": 12, the client is idle.
+pub fn gives_up(image: &mut [u8], c: u8) -> Stepped
+    requires { ⌜ Legible (now image) × (1 ≤ c) × (c ≤ clients) ⌝ }
+    ensures { λ r. ⌜ Does r (now (image .entry)) (now (image .exit)) (givesUp (decode (now (image .entry))) c) ⌝ }
+{
+    let own = load_client(image, c);
+    let given = give_up(own);
+    match given {
+        GivenUp::GiveUpRefused(x) => Stepped::StepRefused(x),
+        GivenUp::GaveUp(next) => {
+            store_client(image, c, next);
             Stepped::StepDone(0)
         }
     }

@@ -1,6 +1,5 @@
 // The steps of a world on its lent image, over the promises of the machines' rules.
 pub mod clients;
-pub mod fields;
 pub mod mail;
 pub mod servers;
 pub mod step;

@@ -9,7 +9,7 @@ ghost use Rattle.image.specs.Steps.{stepOn};
 ghost use Rattle.world.specs.Images.{Legible, Does};
 use super::Stepped;
 use super::clients::begins;
-use super::fields::fields_fit;
+use super::clients::gives_up;
 use super::servers::deliver;
 use super::servers::false_answer;
 use super::servers::fault;
@@ -18,6 +18,7 @@ use super::views::new_view;
 use codec::layout::IMAGE;
 use codec::layout::STEP;
 use codec::records::read_step;
+use fields::check::fields_fit;
 use image::readable::readable;
 use protocol::ServerNumber;
 use protocol::ServerSet;
@@ -26,7 +27,7 @@ use protocol::View;
 use protocol::kinds::READS;
 use protocol::kinds::WRITES;
 
-// "1 write ... 2 read ... 3 deliver ... 4 take ... 5 fault ... 6 false answer ... 7 new view"
+// "1 write ... 2 read ... 3 deliver ... 4 take ... 5 fault ... 6 false answer ... 7 new view", and 8, giving up
 fn perform(image: &mut [u8], st: Step) -> Stepped
     requires { ⌜ Legible (now image) × (fieldsFit st ≡ true) ⌝ }
     ensures { λ r. ⌜ Does r (now (image .entry)) (now (image .exit)) (performOn (decode (now (image .entry))) st) ⌝ }
@@ -43,13 +44,14 @@ fn perform(image: &mut [u8], st: Step) -> Stepped
         4 => take(image, n),
         5 => fault(image, ServerNumber(who)),
         6 => false_answer(image, ServerNumber(who), t, n, source),
-        _ => new_view(
+        7 => new_view(
             image,
             View {
                 members: ServerSet(st.value),
                 f: st.f,
             },
         ),
+        _ => gives_up(image, who),
     }
 }
 

@@ -3,6 +3,7 @@
 
 use crate::codec::image_of;
 use crate::compare::check::Comparison;
+use crate::generate::calls::{administrator_call, client_call, server_call, spoil_call};
 use crate::generate::journals::journal;
 use crate::generate::profile::{Profile, PROFILES};
 use crate::generate::specimen::specimen;
@@ -35,6 +36,23 @@ pub fn run_all(comparison: &mut Comparison, steps: usize, journals: usize, seed:
         steps_along_a_run(comparison, &mut draws, 200);
         steps_on_drawn_worlds(comparison, &mut draws, 150);
         closes_on_drawn_worlds(comparison, &mut draws, 100);
+        single_machines(comparison, &mut draws, 100);
+    }
+}
+
+/// Records of drawn worlds and what is asked of them, some with a byte changed
+/// or of another length.
+fn single_machines(comparison: &mut Comparison, draws: &mut Draws, count: usize) {
+    for _ in 0..count / 10 {
+        let world = world(draws);
+        for _ in 0..10 {
+            let (record, asked) = spoil_call(server_call(&world, draws), draws);
+            comparison.server(&record, &asked);
+            let (record, asked) = spoil_call(client_call(&world, draws), draws);
+            comparison.client(&record, &asked);
+            let (record, asked) = spoil_call(administrator_call(&world, draws), draws);
+            comparison.administrator(&record, &asked);
+        }
     }
 }
 
@@ -180,21 +198,11 @@ fn whole_journals(comparison: &mut Comparison, draws: &mut Draws, count: usize) 
     for number in 0..count {
         let profile = PROFILES[number % PROFILES.len()];
         let odd = number % 3 == 0;
-        one_journal(comparison, draws, &with_odd(profile, odd));
+        one_journal(comparison, draws, &profile.with_odd(odd));
         comparison.journals += 1;
         if number % 10 == 0 {
             journal_on_drawn_world(comparison, draws);
         }
-    }
-}
-
-/// The profile with its odd steps, or without.
-fn with_odd(profile: &Profile, odd: bool) -> Profile {
-    let mut weights = profile.weights;
-    weights[8] = u32::from(odd);
-    Profile {
-        weights,
-        ..profile.clone()
     }
 }
 
@@ -209,6 +217,7 @@ fn one_journal(comparison: &mut Comparison, draws: &mut Draws, profile: &Profile
     let (part, _) = replay_past_refusals(comparison, &fresh, &bytes[..cut]);
     let (parts, _) = replay_past_refusals(comparison, &part, &bytes[cut..]);
     comparison.same_end(&parts, &whole, "a journal in two parts");
+    resumed(comparison, draws, &fresh, &bytes);
     let short = draws.below(bytes.len() + 1);
     comparison.replay(&fresh, &bytes[..short]);
     if draws.chance(20) {
@@ -216,6 +225,38 @@ fn one_journal(comparison: &mut Comparison, draws: &mut Draws, profile: &Profile
         let mut image = *image_of(&specimen());
         change_byte(&mut image, specimen().header.used, draws);
         comparison.replay(&image, &bytes);
+    }
+}
+
+/// A journal resumed where a part of it ended, at its stop, at its end and
+/// beyond it.
+fn resumed(comparison: &mut Comparison, draws: &mut Draws, fresh: &[u8], journal: &[u8]) {
+    let steps = journal.len() / STEP_SIZE;
+    let (whole, done) = comparison.replay(fresh, journal);
+    let cut = draws.below(done + 1);
+    let (part, _) = comparison.replay(fresh, &journal[..cut * STEP_SIZE]);
+    let after = comparison.resume(&part, journal, cut as u64);
+    comparison.same_end(&after, &whole, "a journal resumed");
+    comparison.resume(&whole, journal, done as u64);
+    comparison.resume(&whole, journal, steps as u64);
+    let beyond = [
+        steps as u64 + 1,
+        u64::from(u32::MAX),
+        u64::MAX / 12 + 1,
+        u64::MAX,
+    ];
+    comparison.resume(
+        &whole,
+        journal,
+        *draws.pick(&beyond).expect("there are some"),
+    );
+    let short = draws.below(journal.len() + 1);
+    comparison.resume(&whole, &journal[..short], draws.below(steps + 1) as u64);
+    if draws.chance(10) {
+        comparison.resume(&whole[1..], journal, 0);
+        let mut image = whole;
+        image[0] ^= 3;
+        comparison.resume(&image, journal, cut as u64);
     }
 }
 

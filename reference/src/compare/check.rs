@@ -8,6 +8,7 @@ use crate::operations;
 use crate::quorum::quorum_size;
 use crate::readable::broken;
 use crate::refusal::Reason;
+use crate::single;
 
 /// Bytes before and after a lent buffer, which nobody may write.
 const MARGIN: usize = 64;
@@ -49,6 +50,8 @@ pub struct Comparison<'a> {
     pub steps: u64,
     pub journals: u64,
     pub replays: u64,
+    /// Calls of single machines.
+    pub singles: u64,
     /// The first differences, in words.
     pub told: Vec<String>,
 }
@@ -63,6 +66,7 @@ impl<'a> Comparison<'a> {
             steps: 0,
             journals: 0,
             replays: 0,
+            singles: 0,
             told: Vec::new(),
         }
     }
@@ -100,7 +104,7 @@ impl<'a> Comparison<'a> {
                 if margins {
                     ""
                 } else {
-                    "; bytes beside the image were written"
+                    "; bytes beside the buffer were written"
                 },
             )
         });
@@ -207,10 +211,94 @@ impl<'a> Comparison<'a> {
         (after, ours.done)
     }
 
+    /// The part of a journal after so many steps, on this image; the image
+    /// after it.
+    pub fn resume(&mut self, image: &[u8], journal: &[u8], steps: u64) -> Vec<u8> {
+        self.replays += 1;
+        let mut after = image.to_vec();
+        let ours = operations::resume(&mut after, journal, steps);
+        match ours.stopped {
+            None => self.counts.accept(Operation::Resume),
+            Some(reason) => self.counts.refuse(Operation::Resume, reason),
+        }
+        let what = format!("resume of {} bytes after {steps} ({ours:?})", journal.len());
+        let answer = pack(ours.refusal(), ours.done as u64);
+        let mut lent = Lent::new(journal);
+        let expected = lent.bytes.clone();
+        self.compare_image(image, &after, answer, &what, |library, image| {
+            library.resume(image, lent.content(), steps)
+        });
+        self.unwritten(&lent, &expected, &what);
+        after
+    }
+
+    /// A server's rule on its record.
+    pub fn server(&mut self, record: &[u8], asked: &[u8]) {
+        self.single(
+            Operation::Server,
+            record,
+            asked,
+            |record, asked| single::server_call(record, asked).map(u64::from),
+            |library, record, asked| library.server(record, asked),
+        );
+    }
+
+    /// A client's rule on its record.
+    pub fn client(&mut self, record: &[u8], asked: &[u8]) {
+        self.single(
+            Operation::Client,
+            record,
+            asked,
+            |record, asked| single::client_call(record, asked).map(u64::from),
+            |library, record, asked| library.client(record, asked),
+        );
+    }
+
+    /// The administrator's rule on its record.
+    pub fn administrator(&mut self, record: &[u8], asked: &[u8]) {
+        self.single(
+            Operation::Administrator,
+            record,
+            asked,
+            |record, asked| single::administrator_call(record, asked).map(|()| 0),
+            |library, record, asked| library.administrator(record, asked),
+        );
+    }
+
+    fn single(
+        &mut self,
+        operation: Operation,
+        record: &[u8],
+        asked: &[u8],
+        ours: impl FnOnce(&mut [u8], &[u8]) -> Result<u64, Reason>,
+        theirs: impl FnOnce(&dyn Library, &mut [u8], &[u8]) -> u64,
+    ) {
+        self.singles += 1;
+        let mut after = record.to_vec();
+        let ours = ours(&mut after, asked);
+        match ours {
+            Ok(_) => self.counts.accept(operation),
+            Err(reason) => self.counts.refuse(operation, reason),
+        }
+        let what = format!("{operation:?} {record:?} asked {asked:?} ({ours:?})");
+        let mut lent = Lent::new(asked);
+        let expected = lent.bytes.clone();
+        self.compare_image(
+            record,
+            &after,
+            pack_result(ours),
+            &what,
+            |library, record| theirs(library, record, lent.content()),
+        );
+        self.unwritten(&lent, &expected, &what);
+    }
+
     /// A buffer that is only lent to be read is as it was.
     fn unwritten(&mut self, lent: &Lent, expected: &[u8], what: &str) {
         if lent.bytes != expected {
-            self.score(false, || format!("{what}: the step's bytes were written"));
+            self.score(false, || {
+                format!("{what}: bytes lent to be read were written")
+            });
         }
     }
 

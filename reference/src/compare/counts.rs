@@ -20,13 +20,19 @@ pub enum Operation {
     Fault,
     FalseAnswer,
     NewView,
+    GiveUp,
     /// A step of a kind that does not exist, or of no byte at all.
     OtherKind,
     Premise,
     Replay,
+    Resume,
+    /// The rules of single machines.
+    Server,
+    Client,
+    Administrator,
 }
 
-pub const OPERATIONS: [Operation; 12] = [
+pub const OPERATIONS: [Operation; 17] = [
     Operation::Fresh,
     Operation::Quorum,
     Operation::Write,
@@ -36,9 +42,14 @@ pub const OPERATIONS: [Operation; 12] = [
     Operation::Fault,
     Operation::FalseAnswer,
     Operation::NewView,
+    Operation::GiveUp,
     Operation::OtherKind,
     Operation::Premise,
     Operation::Replay,
+    Operation::Resume,
+    Operation::Server,
+    Operation::Client,
+    Operation::Administrator,
 ];
 
 impl Operation {
@@ -52,13 +63,14 @@ impl Operation {
             Some(&step_kind::FAULT) => Operation::Fault,
             Some(&step_kind::FALSE_ANSWER) => Operation::FalseAnswer,
             Some(&step_kind::NEW_VIEW) => Operation::NewView,
+            Some(&step_kind::GIVE_UP) => Operation::GiveUp,
             _ => Operation::OtherKind,
         }
     }
 }
 
 /// The last refusal's number.
-pub const LAST_REFUSAL: u8 = 11;
+pub const LAST_REFUSAL: u8 = 12;
 
 /// Counts of what was met.
 #[derive(Clone, Debug, Default)]

@@ -1,9 +1,10 @@
-//! The five calls that both sides answer, packed as the C interface packs
+//! The calls that both sides answer, packed as the C interface packs
 //! them: the refusal, and 256 times the result beside it.
 
 use crate::operations;
 use crate::quorum::quorum_size;
 use crate::refusal::Reason;
+use crate::single;
 
 /// Something that answers the calls of the C interface.
 pub trait Library {
@@ -17,6 +18,15 @@ pub trait Library {
     fn premise(&self, image: &[u8]) -> u64;
     /// A journal: the refusal, and the steps done.
     fn replay(&self, image: &mut [u8], journal: &[u8]) -> u64;
+    /// The part of a journal after so many steps: as a replay of it.
+    fn resume(&self, image: &mut [u8], journal: &[u8], steps: u64) -> u64;
+    /// A server's rule on its record: the refusal, and 1 if it answers.
+    fn server(&self, record: &mut [u8], asked: &[u8]) -> u64;
+    /// A client's rule on its record: the refusal, and 1 if its operation is
+    /// complete.
+    fn client(&self, record: &mut [u8], asked: &[u8]) -> u64;
+    /// The administrator's rule on its record: the refusal.
+    fn administrator(&self, record: &mut [u8], asked: &[u8]) -> u64;
 }
 
 /// The refusal and the result in one number.
@@ -55,5 +65,22 @@ impl Library for Reference {
     fn replay(&self, image: &mut [u8], journal: &[u8]) -> u64 {
         let replayed = operations::replay(image, journal);
         pack(replayed.refusal(), replayed.done as u64)
+    }
+
+    fn resume(&self, image: &mut [u8], journal: &[u8], steps: u64) -> u64 {
+        let replayed = operations::resume(image, journal, steps);
+        pack(replayed.refusal(), replayed.done as u64)
+    }
+
+    fn server(&self, record: &mut [u8], asked: &[u8]) -> u64 {
+        pack_result(single::server_call(record, asked).map(u64::from))
+    }
+
+    fn client(&self, record: &mut [u8], asked: &[u8]) -> u64 {
+        pack_result(single::client_call(record, asked).map(u64::from))
+    }
+
+    fn administrator(&self, record: &mut [u8], asked: &[u8]) -> u64 {
+        pack_result(single::administrator_call(record, asked).map(|()| 0))
     }
 }

@@ -28,8 +28,8 @@ pub fn report(comparison: &Comparison) -> String {
     line(
         &mut text,
         &format!(
-            "{} single steps and {} journals ({} replays) compared",
-            comparison.steps, comparison.journals, comparison.replays
+            "{} single steps, {} journals ({} replays) and {} calls of single machines compared",
+            comparison.steps, comparison.journals, comparison.replays, comparison.singles
         ),
     );
     line(
@@ -54,20 +54,20 @@ fn line(text: &mut String, words: &str) {
 
 fn refusals(comparison: &Comparison, text: &mut String) {
     line(text, "Answers by operation and refusal (0: done)");
-    let mut head = format!("{:12}", "");
+    let mut head = format!("{:14}", "");
     for number in 0..=LAST_REFUSAL {
         write!(head, "{number:>8}").expect("a string takes every word");
     }
     line(text, &head);
     for operation in OPERATIONS {
-        let mut row = format!("{:12}", format!("{operation:?}"));
+        let mut row = format!("{:14}", format!("{operation:?}"));
         for number in 0..=LAST_REFUSAL {
             let count = comparison.counts.of(operation, number);
             write!(row, "{count:>8}").expect("a string takes every word");
         }
         line(text, &row);
     }
-    let mut row = format!("{:12}", "all");
+    let mut row = format!("{:14}", "all");
     for number in 0..=LAST_REFUSAL {
         write!(row, "{:>8}", comparison.counts.total(number)).expect("a string takes every word");
     }
@@ -81,7 +81,7 @@ fn paths(comparison: &Comparison, text: &mut String) {
         line(
             text,
             &format!(
-                "{:12}{:>3}  {:40}{count:>8}",
+                "{:14}{:>3}  {:40}{count:>8}",
                 format!("{operation:?}"),
                 reason.number(),
                 format!("{reason:?}")

@@ -4,7 +4,7 @@
 use crate::generate::journals::draw_view;
 use crate::generate::profile::{Faults, Move, Profile};
 use crate::generate::steps::odd_step;
-use crate::layout::{LAST_SERVER, STEP_SIZE};
+use crate::layout::{LAST_CLIENT, LAST_SERVER, STEP_SIZE};
 use crate::record::Step;
 use crate::rules::Rules;
 use crate::step::step;
@@ -83,6 +83,7 @@ impl Run {
             Move::Fault => self.fault(profile)?,
             Move::Lie => self.lie()?,
             Move::NewView => self.new_view(profile)?,
+            Move::GiveUp => self.give_up()?,
             Move::Odd => return Some(odd_step(&self.world, &mut self.draws)),
         };
         Some(record.bytes().to_vec())
@@ -102,6 +103,19 @@ impl Run {
             return Some(Step::write(client, value));
         }
         Some(Step::read(client))
+    }
+
+    fn give_up(&mut self) -> Option<Step> {
+        // One that is writing for preference: its WRITE may still surface.
+        let least = if self.draws.chance(70) {
+            phase::WRITING
+        } else {
+            phase::READING
+        };
+        let busy: Vec<u8> = (1..=LAST_CLIENT)
+            .filter(|client| self.world.client(*client).phase >= least)
+            .collect();
+        self.draws.pick(&busy).map(|client| Step::give_up(*client))
     }
 
     /// The requests that somebody waits for answers to.

@@ -28,11 +28,13 @@ pub enum Move {
     Lie,
     /// The administrator ends the newest view.
     NewView,
+    /// A client gives its open operation up.
+    GiveUp,
     /// A step drawn with no care, most often refused.
     Odd,
 }
 
-pub const MOVES: [Move; 9] = [
+pub const MOVES: [Move; 10] = [
     Move::Begin,
     Move::Deliver,
     Move::DeliverLate,
@@ -41,8 +43,12 @@ pub const MOVES: [Move; 9] = [
     Move::Fault,
     Move::Lie,
     Move::NewView,
+    Move::GiveUp,
     Move::Odd,
 ];
+
+/// The place of the odd steps among the moves.
+const ODD: usize = MOVES.len() - 1;
 
 #[derive(Clone, Debug)]
 pub struct Profile {
@@ -59,10 +65,22 @@ pub struct Profile {
     pub operations: usize,
     pub faults: Faults,
     /// The weight of each move, in the order of `MOVES`.
-    pub weights: [u32; 9],
+    pub weights: [u32; MOVES.len()],
     /// In how many of a hundred steps the network parts anew into servers that
     /// are reached and servers that are not; 0: all are always reached.
     pub partings: usize,
+}
+
+impl Profile {
+    /// The same with odd steps, or without.
+    pub fn with_odd(&self, odd: bool) -> Profile {
+        let mut weights = self.weights;
+        weights[ODD] = u32::from(odd);
+        Profile {
+            weights,
+            ..self.clone()
+        }
+    }
 }
 
 /// Few servers, few operations, much goes wrong: for histories.
@@ -74,7 +92,7 @@ pub const STORM: Profile = Profile {
     steps: 220,
     operations: 8,
     faults: Faults::Within,
-    weights: [6, 30, 4, 10, 30, 2, 14, 3, 1],
+    weights: [6, 30, 4, 10, 30, 2, 14, 3, 2, 1],
     partings: 5,
 };
 
@@ -87,7 +105,7 @@ pub const STILL: Profile = Profile {
     steps: 160,
     operations: 8,
     faults: Faults::Within,
-    weights: [6, 30, 4, 0, 30, 2, 12, 0, 1],
+    weights: [6, 30, 4, 0, 30, 2, 12, 0, 2, 1],
     partings: 8,
 };
 
@@ -95,7 +113,7 @@ pub const STILL: Profile = Profile {
 pub const WRECK: Profile = Profile {
     name: "wreck",
     faults: Faults::Beyond,
-    weights: [6, 30, 4, 10, 30, 5, 20, 3, 1],
+    weights: [6, 30, 4, 10, 30, 5, 20, 3, 2, 1],
     ..STORM
 };
 
@@ -108,7 +126,7 @@ pub const GLIMPSE: Profile = Profile {
     steps: 220,
     operations: 12,
     faults: Faults::Within,
-    weights: [20, 15, 0, 0, 30, 0, 0, 0, 1],
+    weights: [20, 15, 0, 0, 30, 0, 0, 0, 2, 1],
     partings: 20,
 };
 
@@ -122,7 +140,7 @@ pub const FULL: Profile = Profile {
     steps: 6000,
     operations: usize::MAX,
     faults: Faults::Within,
-    weights: [20, 120, 3, 25, 130, 1, 6, 1, 0],
+    weights: [20, 120, 3, 25, 130, 1, 6, 1, 2, 0],
     partings: 1,
 };
 
@@ -135,7 +153,7 @@ pub const WIDE: Profile = Profile {
     steps: 6000,
     operations: usize::MAX,
     faults: Faults::Beyond,
-    weights: [8, 150, 10, 40, 150, 4, 20, 1, 0],
+    weights: [8, 150, 10, 40, 150, 4, 20, 1, 1, 0],
     partings: 0,
 };
 
@@ -148,7 +166,7 @@ pub const TINY: Profile = Profile {
     steps: 60,
     operations: usize::MAX,
     faults: Faults::Beyond,
-    weights: [10, 20, 4, 8, 20, 1, 4, 2, 1],
+    weights: [10, 20, 4, 8, 20, 1, 4, 2, 3, 1],
     partings: 0,
 };
 
@@ -161,8 +179,23 @@ pub const RUSH: Profile = Profile {
     steps: 3000,
     operations: usize::MAX,
     faults: Faults::Within,
-    weights: [3, 40, 4, 40, 40, 1, 6, 20, 0],
+    weights: [3, 40, 4, 40, 40, 1, 6, 20, 1, 0],
     partings: 2,
 };
 
-pub const PROFILES: [&Profile; 8] = [&STORM, &STILL, &WRECK, &GLIMPSE, &FULL, &WIDE, &TINY, &RUSH];
+/// Clients that restart again and again: several unfinished operations each.
+pub const RESTARTS: Profile = Profile {
+    name: "restarts",
+    clients: 3,
+    servers: 4,
+    largest_view: 4,
+    steps: 320,
+    operations: 16,
+    faults: Faults::Within,
+    weights: [10, 30, 2, 6, 30, 1, 4, 1, 3, 1],
+    partings: 20,
+};
+
+pub const PROFILES: [&Profile; 9] = [
+    &STORM, &STILL, &WRECK, &GLIMPSE, &FULL, &WIDE, &TINY, &RUSH, &RESTARTS,
+];

@@ -37,7 +37,9 @@ fn each<T: Copy>(values: &[T], put: impl Fn(&mut World, T)) -> Vec<World> {
 
 fn header(clause: Clause) -> Vec<World> {
     match clause {
-        Clause::Version => each(&[0, 2, 257], |world, number| world.header.version = number),
+        Clause::Version => each(&[0, 1, 3, 258], |world, number| {
+            world.header.version = number
+        }),
         Clause::Used => each(&[1024, u16::MAX], use_every_number),
         Clause::Newest => {
             let mut worlds = each(&[33, 64, 255], newest_beyond);
@@ -229,7 +231,7 @@ fn write_without_kind(world: &mut World) {
         phase: phase::WRITING,
         kind: operation_kind::NONE,
         request: at::OLD_WRITE as u16,
-        entry: Entry::EMPTY,
+        ..Client::default()
     };
 }
 

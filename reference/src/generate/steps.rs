@@ -36,7 +36,7 @@ pub fn spoiled_step(world: &World, draws: &mut Draws) -> Vec<u8> {
 
 /// A step that passes check 3, of each kind as often as another.
 pub fn aimed_step(world: &World, draws: &mut Draws) -> Step {
-    let kind = draws.between(1, 7) as u8;
+    let kind = draws.between(1, usize::from(step_kind::LAST)) as u8;
     aimed_step_of(kind, world, draws)
 }
 
@@ -52,6 +52,7 @@ pub fn aimed_step_of(kind: u8, world: &World, draws: &mut Draws) -> Step {
         step_kind::TAKE => Step::take(answer(world, draws)),
         step_kind::FAULT => Step::fault(any_server(draws)),
         step_kind::FALSE_ANSWER => false_answer(world, draws),
+        step_kind::GIVE_UP => Step::give_up(any_client(draws)),
         _ => new_view(draws),
     }
 }

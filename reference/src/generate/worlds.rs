@@ -24,9 +24,23 @@ pub fn world(draws: &mut Draws) -> World {
         world.servers[number] = draw_server(&world, draws, &entries);
     }
     for number in 1..=CLIENTS as u8 {
-        *world.client_mut(number) = draw_client(&world, draws, &entries, number);
+        *world.client_mut(number) = Client {
+            largest: draw_count(draws),
+            ..draw_client(&world, draws, &entries, number)
+        };
     }
     world
+}
+
+/// Any count, at the ends for preference.
+fn draw_count(draws: &mut Draws) -> u32 {
+    match draws.below(5) {
+        0 => 0,
+        1 => u32::MAX,
+        2 => u32::MAX - 1,
+        3 => draws.word() as u32,
+        _ => draws.between(1, 3) as u32,
+    }
 }
 
 /// A few entries to share, so that stamps are often equal: some with equal
@@ -35,13 +49,7 @@ fn draw_entries(draws: &mut Draws) -> Vec<Entry> {
     let writer = |draws: &mut Draws| draws.between(0, usize::from(LAST_CLIENT)) as u8;
     let mut entries = vec![Entry::EMPTY];
     for _ in 0..draws.between(1, 5) {
-        let count = match draws.below(5) {
-            0 => 0,
-            1 => u32::MAX,
-            2 => u32::MAX - 1,
-            3 => draws.word() as u32,
-            _ => draws.between(1, 3) as u32,
-        };
+        let count = draw_count(draws);
         let entry = Entry::new(count, writer(draws), draws.word() as u32);
         entries.push(entry);
         if draws.chance(50) {
@@ -263,8 +271,8 @@ fn draw_client(world: &World, draws: &mut Draws, entries: &[Entry], number: u8) 
         _ => Client {
             phase: phase::IDLE,
             kind,
-            request: 0,
             entry: an_entry(draws, entries),
+            ..Client::default()
         },
     }
 }
@@ -298,6 +306,7 @@ fn open(world: &World, draws: &mut Draws, kind: u8, request: u16) -> Client {
             kind,
             request,
             entry: message.entry,
+            ..Client::default()
         };
     }
     let value = if kind == operation_kind::WRITE {
@@ -310,5 +319,6 @@ fn open(world: &World, draws: &mut Draws, kind: u8, request: u16) -> Client {
         kind,
         request,
         entry: Entry::new(0, 0, value),
+        ..Client::default()
     }
 }

@@ -2,12 +2,13 @@
 //! shows it wrong, and a hunt for drawn journals that do.
 
 use crate::generate::journals::journal;
-use crate::generate::profile::{Profile, GLIMPSE, STILL, STORM, WRECK};
+use crate::generate::profile::{Profile, GLIMPSE, RESTARTS, STILL, STORM, WRECK};
 use crate::history::verdict::{examine, Verdict};
 use crate::journal::Journal;
 use crate::record::Step;
 use crate::rules::{
-    AddsUpViews, CountsAnswers, ForgetsLeftViews, Rules, SkipsWriteBack, StartReturnsKey,
+    AddsUpViews, CountsAnswers, ForgetsLeftViews, ForgetsOwnCount, Rules, SkipsWriteBack,
+    StartReturnsKey,
 };
 
 /// A wrong idea: what it is, how a journal fares under it, and where drawn
@@ -23,7 +24,7 @@ pub struct Idea {
 /// Within so many drawn journals each idea is found out.
 pub const LIMIT: u64 = 2000;
 
-pub const IDEAS: [Idea; 5] = [
+pub const IDEAS: [Idea; 6] = [
     idea::<ForgetsLeftViews>(
         "counting faults only until a quorum has left",
         old_quorum_turns_faulty,
@@ -43,6 +44,11 @@ pub const IDEAS: [Idea; 5] = [
         "a START that comes again returns the key",
         retired_server_starts_again,
         &STORM,
+    ),
+    idea::<ForgetsOwnCount>(
+        "a given-up write's stamp is given again",
+        stamp_given_again,
+        &RESTARTS,
     ),
     idea::<SkipsWriteBack>("skipping the write-back", second_reader_sees_less, &GLIMPSE),
 ];
@@ -70,7 +76,7 @@ impl Idea {
     /// How many journals, drawn from this seed on, it takes until one shows the
     /// idea wrong; none if the limit does not suffice.
     pub fn hunt(&self, seed: u64, limit: u64) -> Option<u64> {
-        (1..=limit).find(|run| (self.examine)(&self.drawn(seed + run)).is_violation())
+        (1..=limit).find(|run| (self.examine)(&self.drawn(seed + run)).is_wrong())
     }
 }
 
@@ -197,6 +203,46 @@ pub fn retired_server_starts_again() -> Journal {
         .then(Step::take(12)) // 13, WRITE
         .then(Step::deliver(3, 13)) // 14
         .then(Step::take(14)) // the read ends
+}
+
+/// The first write has reached server 1 alone when it is given up. The second
+/// hears 2 and 3, and ends there; a read hears 1 and 2, a later one 2 and 3.
+pub fn stamp_given_again() -> Journal {
+    Journal::new(0b111, 0)
+        .then(Step::write(1, 7)) // 1
+        .then(Step::deliver(1, 1)) // 2
+        .then(Step::deliver(2, 1)) // 3
+        .then(Step::take(2))
+        .then(Step::take(3)) // 4, WRITE
+        .then(Step::deliver(1, 4)) // 5
+        .then(Step::give_up(1))
+        .then(Step::write(1, 8)) // 6
+        .then(Step::deliver(2, 6)) // 7
+        .then(Step::deliver(3, 6)) // 8
+        .then(Step::take(7))
+        .then(Step::take(8)) // 9, WRITE
+        .then(Step::deliver(2, 9)) // 10
+        .then(Step::deliver(3, 9)) // 11
+        .then(Step::take(10))
+        .then(Step::take(11)) // the write ends
+        .then(Step::read(2)) // 12
+        .then(Step::deliver(1, 12)) // 13
+        .then(Step::deliver(2, 12)) // 14
+        .then(Step::take(13))
+        .then(Step::take(14)) // 15, WRITE
+        .then(Step::deliver(1, 15)) // 16
+        .then(Step::deliver(2, 15)) // 17
+        .then(Step::take(16))
+        .then(Step::take(17)) // the read ends
+        .then(Step::read(2)) // 18
+        .then(Step::deliver(2, 18)) // 19
+        .then(Step::deliver(3, 18)) // 20
+        .then(Step::take(19))
+        .then(Step::take(20)) // 21, WRITE
+        .then(Step::deliver(2, 21)) // 22
+        .then(Step::deliver(3, 21)) // 23
+        .then(Step::take(22))
+        .then(Step::take(23)) // the second read ends
 }
 
 /// The write has reached server 1 only. A first read hears 1 and 2, a second

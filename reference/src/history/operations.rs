@@ -1,11 +1,11 @@
 //! The operations of a journal, as they follow from its steps alone.
 
-use crate::entry::Entry;
+use crate::entry::{Entry, Stamp};
 use crate::journal::Journal;
 use crate::layout::CLIENTS;
 use crate::record::{step_kind, Step};
 use crate::rules::Rules;
-use crate::step::step;
+use crate::step::{step, Deed};
 use crate::world::{operation_kind, phase, World};
 
 #[derive(Clone, Copy, Debug, PartialEq, Eq, Hash)]
@@ -15,8 +15,8 @@ pub enum Kind {
 }
 
 /// One operation: its client, the places in the journal where it began and
-/// ended, and its entry. Without an end it is unfinished; an unfinished write
-/// has an entry once its WRITE was sent.
+/// ended, and its entry. Without an end it is unfinished, given up or not; an
+/// unfinished write has an entry once its WRITE was sent.
 #[derive(Clone, Debug, PartialEq, Eq)]
 pub struct Operation {
     pub client: u8,
@@ -56,9 +56,16 @@ pub fn run<R: Rules>(journal: &Journal) -> Run {
             continue;
         };
         let record = Step::load(bytes);
+        let left = left_open(&world, &record, &open, &operations);
         let Ok(done) = step::<R>(&mut world, &record) else {
             continue;
         };
+        if done.deed == Deed::GaveUp {
+            let number = open[usize::from(record.who) - 1]
+                .take()
+                .expect("only an open operation is given up");
+            operations[number].entry = left;
+        }
         if let Some(kind) = begins(record.kind) {
             open[usize::from(record.who) - 1] = Some(operations.len());
             operations.push(Operation {
@@ -83,6 +90,20 @@ pub fn run<R: Rules>(journal: &Journal) -> Run {
     Run { world, operations }
 }
 
+/// The entry that the operation a step gives up has at that moment.
+fn left_open(
+    world: &World,
+    record: &Step,
+    open: &[Option<usize>; CLIENTS],
+    operations: &[Operation],
+) -> Option<Entry> {
+    if record.kind != step_kind::GIVE_UP || record.check().is_err() {
+        return None;
+    }
+    let number = open[usize::from(record.who) - 1]?;
+    written(world, &operations[number])
+}
+
 fn begins(kind: u8) -> Option<Kind> {
     match kind {
         step_kind::WRITE => Some(Kind::Write),
@@ -91,13 +112,25 @@ fn begins(kind: u8) -> Option<Kind> {
     }
 }
 
-/// The entry of an unfinished write: that of its WRITE, if one was sent.
+/// The entry of a write that is open: that of its WRITE, if one was sent.
 fn written(world: &World, operation: &Operation) -> Option<Entry> {
     let client = world.client(operation.client);
     if client.phase != phase::WRITING || client.kind != operation_kind::WRITE {
         return None;
     }
     world.message(client.request).map(|message| message.entry)
+}
+
+/// Whether no two write operations of a run have one stamp, those included that
+/// nobody returned.
+pub fn stamps_differ(operations: &[Operation]) -> bool {
+    let mut stamps: Vec<Stamp> = operations
+        .iter()
+        .filter(|operation| operation.kind == Kind::Write)
+        .filter_map(|operation| operation.entry.map(|entry| entry.stamp()))
+        .collect();
+    stamps.sort();
+    stamps.windows(2).all(|pair| pair[0] != pair[1])
 }
 
 /// The operations that the order is about, each with its entry: all completed

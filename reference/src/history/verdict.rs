@@ -2,7 +2,7 @@
 //! an order?
 
 use crate::history::blocks::find;
-use crate::history::operations::{ordered, run, Operation};
+use crate::history::operations::{ordered, run, stamps_differ, Operation};
 use crate::history::search::by_trying;
 use crate::history::sorted::by_stamp;
 use crate::journal::Journal;
@@ -18,6 +18,8 @@ pub struct Verdict {
     pub premise: bool,
     /// The operations that the order is about.
     pub operations: Vec<Operation>,
+    /// Whether no stamp was given to two writes.
+    pub never_again: bool,
     /// Whether an order as promised exists.
     pub order: bool,
     /// Whether the order by stamp is one.
@@ -33,6 +35,11 @@ impl Verdict {
         self.premise && !self.order
     }
 
+    /// A stamp was given a second time, or the claim fails.
+    pub fn is_wrong(&self) -> bool {
+        !self.never_again || self.is_violation()
+    }
+
     /// The ways to find an order contradict each other.
     pub fn is_at_odds(&self) -> bool {
         (self.by_stamp && !self.order) || self.tried == Some(false)
@@ -42,12 +49,14 @@ impl Verdict {
 /// Runs the journal under these rules and looks at what came out.
 pub fn examine<R: Rules>(journal: &Journal) -> Verdict {
     let run = run::<R>(journal);
+    let never_again = stamps_differ(&run.operations);
     let operations = ordered(&run.operations);
     let order = find(&operations).is_some();
     let by_stamp = by_stamp(&operations).is_some();
     let tried = (operations.len() <= FEW).then(|| by_trying(&operations).is_some() == order);
     Verdict {
         premise: premise::<R>(&run.world),
+        never_again,
         operations,
         order,
         by_stamp,

@@ -5,7 +5,7 @@ use reference::compare::cases::run_all;
 use reference::compare::check::Comparison;
 use reference::compare::library::{Library, Reference};
 use reference::compare::report::{is_good, report};
-use reference::layout::IMAGE_SIZE;
+use reference::layout::{ADMINISTRATOR_SIZE, CLIENT_SIZE, IMAGE_SIZE, SERVER_SIZE};
 
 type ChangeImage = dyn Fn(&mut [u8]);
 
@@ -13,7 +13,11 @@ type ChangeImage = dyn Fn(&mut [u8]);
 struct Changed {
     answer: Box<dyn Fn(u64) -> u64>,
     image: Box<ChangeImage>,
+    /// What becomes of a single machine's record.
+    record: Box<ChangeImage>,
     only_if_accepted: bool,
+    /// How many steps a resume leaves out.
+    steps: fn(u64) -> u64,
 }
 
 /// Nothing changed yet.
@@ -21,7 +25,9 @@ fn same() -> Changed {
     Changed {
         answer: Box::new(|answer| answer),
         image: Box::new(|_| {}),
+        record: Box::new(|_| {}),
         only_if_accepted: true,
+        steps: |steps| steps,
     }
 }
 
@@ -31,6 +37,11 @@ impl Changed {
             (self.image)(image);
         }
         (self.answer)(answer)
+    }
+
+    fn machine(&self, answer: u64, record: &mut [u8]) -> u64 {
+        (self.record)(record);
+        answer
     }
 }
 
@@ -55,6 +66,23 @@ impl Library for Changed {
     fn replay(&self, image: &mut [u8], journal: &[u8]) -> u64 {
         let answer = Reference.replay(image, journal);
         self.change(answer, image)
+    }
+
+    fn resume(&self, image: &mut [u8], journal: &[u8], steps: u64) -> u64 {
+        let steps = (self.steps)(steps);
+        Reference.resume(image, journal, steps)
+    }
+
+    fn server(&self, record: &mut [u8], asked: &[u8]) -> u64 {
+        self.machine(Reference.server(record, asked), record)
+    }
+
+    fn client(&self, record: &mut [u8], asked: &[u8]) -> u64 {
+        self.machine(Reference.client(record, asked), record)
+    }
+
+    fn administrator(&self, record: &mut [u8], asked: &[u8]) -> u64 {
+        self.machine(Reference.administrator(record, asked), record)
     }
 }
 
@@ -127,6 +155,33 @@ fn a_byte_written_beside_a_refusal_fails() {
         ..same()
     };
     assert!(!passes(&library));
+}
+
+#[test]
+fn another_byte_of_a_single_record_fails() {
+    for (length, place) in [(SERVER_SIZE, 8), (CLIENT_SIZE, 4), (ADMINISTRATOR_SIZE, 2)] {
+        let library = Changed {
+            record: Box::new(move |record| {
+                if record.len() == length {
+                    record[place] ^= 1;
+                }
+            }),
+            ..same()
+        };
+        assert!(!passes(&library), "a record of {length} bytes");
+    }
+}
+
+#[test]
+fn a_resume_from_elsewhere_fails() {
+    let others: [fn(u64) -> u64; 3] = [
+        |_| 0,
+        |steps| steps.saturating_sub(1),
+        |steps| steps.saturating_add(1),
+    ];
+    for steps in others {
+        assert!(!passes(&Changed { steps, ..same() }));
+    }
 }
 
 #[test]

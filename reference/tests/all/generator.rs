@@ -1,7 +1,7 @@
 //! The generator: the same seed gives the same journal, and together the cases
 //! reach every refusal by every path and every kind of close.
 
-use std::collections::{BTreeMap, BTreeSet};
+use std::collections::BTreeSet;
 
 use reference::compare::cases::{run_all, JOURNALS, STEPS};
 use reference::compare::check::Comparison;
@@ -10,7 +10,7 @@ use reference::compare::library::Reference;
 use reference::compare::report::{is_good, LEAST};
 use reference::generate::journals::journal;
 use reference::generate::profile::{FULL, PROFILES, RUSH, STORM, WRECK};
-use reference::history::operations::run;
+use reference::history::operations::{run, stamps_differ};
 use reference::layout::{IMAGE_SIZE, STEP_SIZE};
 use reference::operations;
 use reference::premise::premise;
@@ -57,6 +57,23 @@ fn a_replay_does_what_single_steps_do() {
             assert_eq!(replayed.done, accepted, "{} {seed}", profile.name);
             assert!(one == other, "{} {seed}", profile.name);
         }
+    }
+}
+
+/// No two writes of a run have one stamp, whether or not the premise holds.
+#[test]
+fn a_stamp_is_never_given_again() {
+    for profile in PROFILES {
+        let mut unfinished = 0;
+        for seed in 0..60 {
+            let operations = run::<Sound>(&journal::<Sound>(seed, profile)).operations;
+            assert!(stamps_differ(&operations), "{} {seed}", profile.name);
+            let open = operations.iter().filter(|operation| {
+                operation.client == 1 && !operation.is_completed() && operation.entry.is_some()
+            });
+            unfinished += u32::from(open.count() > 1);
+        }
+        assert!(unfinished > 5 || profile.name != "restarts", "{unfinished}");
     }
 }
 
@@ -116,7 +133,7 @@ fn used_fields(operation: Operation) -> &'static [(Field, bool)] {
     use Field::{Message, Source, Value, View, Who, F};
     match operation {
         Operation::Write => &[(Who, true), (Value, false)],
-        Operation::Read | Operation::Fault => &[(Who, true)],
+        Operation::Read | Operation::Fault | Operation::GiveUp => &[(Who, true)],
         Operation::Deliver => &[(Who, true), (Message, true)],
         Operation::Take => &[(Message, true)],
         Operation::FalseAnswer => &[(Who, true), (View, true), (Message, true), (Source, true)],
@@ -148,6 +165,7 @@ fn own_refusals(operation: Operation) -> Vec<Reason> {
             TakenBefore,
             NobodyWaits,
             CountTooLarge,
+            OwnCountTooLarge,
             NoNumberToClose(Close::ReadOfWrite),
             NoNumberToClose(Close::ReadOfRead),
             NoNumberToClose(Close::End),
@@ -162,9 +180,56 @@ fn own_refusals(operation: Operation) -> Vec<Reason> {
             LacksKey,
             NoNumber,
         ],
+        Operation::GiveUp => vec![ClientIdle],
         Operation::NewView => vec![EndingAlready, SizeRule, LastView, NoNumber],
         _ => vec![],
     }
+}
+
+/// The refusals of single machines.
+fn single_paths() -> Vec<(Operation, Reason)> {
+    use Reason::*;
+    let machines: [(Operation, &[Reason]); 3] = [
+        (
+            Operation::Server,
+            &[
+                AnswerDelivered,
+                ServerFaulty,
+                NoViewYet,
+                KeyGivenUp,
+                EndOfOtherView,
+                NotAMember,
+                ViewNotBelow,
+                KeyHeldAlready,
+                NotARequest,
+                SourceNotWrite,
+                ServerCorrect,
+                LacksKey,
+            ],
+        ),
+        (
+            Operation::Client,
+            &[
+                ClientBusy,
+                NothingOpen,
+                CountTooLarge,
+                OwnCountTooLarge,
+                ClientIdle,
+            ],
+        ),
+        (
+            Operation::Administrator,
+            &[EndingAlready, SizeRule, LastView, NothingEnding],
+        ),
+    ];
+    machines
+        .into_iter()
+        .flat_map(|(operation, own)| {
+            let shared = [RecordLength, RecordRange, CallRange];
+            let all = shared.into_iter().chain(own.iter().copied());
+            all.map(move |reason| (operation, reason))
+        })
+        .collect()
 }
 
 /// Every path to a refusal that exists.
@@ -183,7 +248,12 @@ fn every_path() -> BTreeSet<(Operation, Reason)> {
         (Operation::Replay, Reason::JournalLength),
         (Operation::Replay, Reason::Unreadable),
         (Operation::Replay, Reason::UnknownKind),
+        (Operation::Resume, Reason::ImageLength),
+        (Operation::Resume, Reason::JournalLength),
+        (Operation::Resume, Reason::Unreadable),
+        (Operation::Resume, Reason::UnknownKind),
     ]);
+    paths.extend(single_paths());
     let steps = [
         Operation::Write,
         Operation::Read,
@@ -192,6 +262,7 @@ fn every_path() -> BTreeSet<(Operation, Reason)> {
         Operation::Fault,
         Operation::FalseAnswer,
         Operation::NewView,
+        Operation::GiveUp,
     ];
     for operation in steps {
         for reason in [Reason::ImageLength, Reason::StepLength, Reason::Unreadable] {
@@ -232,6 +303,7 @@ fn every_deed() -> BTreeSet<Deed> {
         Deed::Faulted,
         Deed::Lied,
         Deed::Ending,
+        Deed::GaveUp,
     ]);
     deeds.extend(waits.map(Deed::Closed));
     deeds.extend(waits.map(Deed::LeftOpen));
@@ -245,17 +317,14 @@ fn the_cases_reach_every_refusal_by_every_path_and_every_close() {
     let counts = &comparison.counts;
     assert!(is_good(&comparison), "{:?}", comparison.told);
     assert!(counts.rare(LEAST).is_empty());
-    let met: BTreeMap<_, _> = counts
-        .refused
-        .iter()
-        .filter(|((operation, _), _)| *operation != Operation::Replay)
-        .collect();
     for path in every_path() {
-        let replayed = path.0 == Operation::Replay && counts.refused.contains_key(&path);
-        assert!(replayed || met.contains_key(&path), "never met: {path:?}");
+        assert!(counts.refused.contains_key(&path), "never met: {path:?}");
     }
-    for path in met.keys() {
-        assert!(every_path().contains(path), "not thought of: {path:?}");
+    // A replay may stop with whatever a step can meet.
+    let replays = [Operation::Replay, Operation::Resume];
+    for path in counts.refused.keys() {
+        let known = replays.contains(&path.0) || every_path().contains(path);
+        assert!(known, "not thought of: {path:?}");
     }
     let deeds: BTreeSet<Deed> = counts.deeds.keys().copied().collect();
     assert_eq!(deeds, every_deed());

@@ -2,18 +2,19 @@
 
 use reference::history::ideas::{
     faulty_server_answers_often, old_quorum_turns_faulty, one_of_each_view,
-    retired_server_starts_again, second_reader_sees_less, Idea, IDEAS, LIMIT,
+    retired_server_starts_again, second_reader_sees_less, stamp_given_again, Idea, IDEAS, LIMIT,
 };
 use reference::history::verdict::examine;
 use reference::premise::premise;
 use reference::rules::{
-    AddsUpViews, CountsAnswers, ForgetsLeftViews, Rules, SkipsWriteBack, Sound, StartReturnsKey,
+    AddsUpViews, CountsAnswers, ForgetsLeftViews, ForgetsOwnCount, Rules, SkipsWriteBack, Sound,
+    StartReturnsKey,
 };
 
 #[test]
-fn there_are_five() {
+fn there_are_six() {
     let names: Vec<&str> = IDEAS.iter().map(|idea| idea.name).collect();
-    assert_eq!(names.len(), 5);
+    assert_eq!(names.len(), 6);
 }
 
 #[test]
@@ -60,11 +61,19 @@ fn each_flag_alone_does_it() {
     assert!(violates::<AddsUpViews>(&one_of_each_view()));
     assert!(violates::<StartReturnsKey>(&retired_server_starts_again()));
     assert!(violates::<SkipsWriteBack>(&second_reader_sees_less()));
+    assert!(violates::<ForgetsOwnCount>(&stamp_given_again()));
     // Another flag does not.
     assert!(!violates::<AddsUpViews>(&faulty_server_answers_often()));
     assert!(!violates::<CountsAnswers>(&one_of_each_view()));
     assert!(!violates::<SkipsWriteBack>(&retired_server_starts_again()));
     assert!(!violates::<StartReturnsKey>(&second_reader_sees_less()));
+}
+
+#[test]
+fn a_stamp_given_again_is_seen_as_such() {
+    let journal = stamp_given_again();
+    assert!(!examine::<ForgetsOwnCount>(&journal).never_again);
+    assert!(examine::<Sound>(&journal).never_again);
 }
 
 fn hunt(idea: &Idea) {

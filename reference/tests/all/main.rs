@@ -3,12 +3,14 @@
 
 mod compare;
 mod generator;
+mod giving_up;
 mod history;
 mod ideas;
 mod program;
 mod quorum;
 mod readable;
 mod refusals;
+mod single;
 mod traps;
 
 use reference::codec::image_of;

@@ -3,15 +3,17 @@
 use std::collections::BTreeSet;
 
 use reference::generate::journals::journal;
-use reference::generate::profile::{Profile, STORM};
+use reference::generate::profile::STORM;
 use reference::history::operations::{self as history, Kind};
 use reference::history::verdict::examine;
 use reference::journal::Journal;
+use reference::layout::{STEP_SIZE, VIEWS};
 use reference::program::run;
-use reference::record::Step;
+use reference::record::{step_kind, Step};
 use reference::rules::Sound;
 use reference::sessions::{
-    replaced_entry, retired_server, sessions, stale_read, unfinished_write, worked, Session,
+    given_up, given_up_surfaces, replaced_entry, retired_server, sessions, stale_read,
+    unfinished_write, worked, Session,
 };
 
 #[test]
@@ -72,6 +74,14 @@ fn sessions_by_hand() {
             "unfinished-write",
             "1 W 1 1 1\n3 R 1 1 1\n3 R 2 2 2\n4 R 2 2 2\ndone 42 0\n",
         ),
+        (
+            "given-up",
+            "1 W 2 1 1500\n2 R 2 1 1500\n1 W 3 1 2500\n2 R 3 1 2500\ndone 50 0\n",
+        ),
+        (
+            "given-up-surfaces",
+            "2 R 0 0 0\n2 R 1 1 1000\n1 W 2 1 1500\n3 R 2 1 1500\ndone 45 0\n",
+        ),
         ("full-table", "1 W 1 1 9\n2 W 2 2 8\ndone 1030 10\n"),
         ("empty", "done 0 1\n"),
         ("first-cut-short", "done 0 1\n"),
@@ -88,7 +98,13 @@ fn sessions_by_hand() {
 
 #[test]
 fn only_the_stale_read_lacks_the_premise_and_the_order() {
-    for journal in [retired_server(), replaced_entry(), unfinished_write()] {
+    for journal in [
+        retired_server(),
+        replaced_entry(),
+        unfinished_write(),
+        given_up(),
+        given_up_surfaces(),
+    ] {
         let verdict = examine::<Sound>(&journal);
         assert!(verdict.premise && verdict.order);
     }
@@ -108,7 +124,7 @@ fn refused_sessions_stop_with_the_number_in_their_name() {
             numbers.insert(number);
         }
     }
-    assert_eq!(numbers, (3..=9).collect());
+    assert_eq!(numbers, (3..=9).chain([12]).collect());
 }
 
 #[test]
@@ -120,14 +136,18 @@ fn drawn_sessions_run_to_their_end() {
         assert!(output.ends_with(&format!("done {steps} 0\n")), "{name}");
         assert!(output.lines().count() > 5, "{name} has operations");
     }
+    // The last view is reached.
+    let input = session("many-views").input;
+    let views = input
+        .chunks(STEP_SIZE)
+        .filter(|step| step[0] == step_kind::NEW_VIEW);
+    assert_eq!(views.count(), VIEWS - 1);
 }
 
 #[test]
 fn the_lines_are_the_completed_operations() {
     for seed in 0..50 {
-        let mut weights = STORM.weights;
-        weights[8] = 0;
-        let drawn = journal::<Sound>(seed, &Profile { weights, ..STORM });
+        let drawn = journal::<Sound>(seed, &STORM.with_odd(false));
         let mut operations = history::run::<Sound>(&drawn).operations;
         operations.retain(|operation| operation.is_completed());
         operations.sort_by_key(|operation| operation.ended);

@@ -121,7 +121,7 @@ fn an_unreadable_image_comes_before_an_unknown_kind() {
 }
 
 /// For each kind a step with its used fields set, and those fields.
-fn steps_with_used_fields() -> [(Step, &'static [Field]); 7] {
+fn steps_with_used_fields() -> [(Step, &'static [Field]); 8] {
     use Field::{Message, Source, Value, View, Who, F};
     [
         (Step::write(16, u32::MAX), &[Who, Value]),
@@ -134,6 +134,7 @@ fn steps_with_used_fields() -> [(Step, &'static [Field]); 7] {
             &[Who, View, Message, Source],
         ),
         (Step::new_view(u32::MAX, 255), &[F, Value]),
+        (Step::give_up(16), &[Who]),
     ]
 }
 
@@ -181,7 +182,7 @@ fn a_used_field_is_in_range() {
     for (step, used) in steps_with_used_fields() {
         for field in used {
             let (below, above) = match field {
-                Field::Who if step.kind <= 2 => (Some(0), Some(17)),
+                Field::Who if matches!(step.kind, 1 | 2 | 8) => (Some(0), Some(17)),
                 Field::Who | Field::View => (Some(0), Some(33)),
                 Field::Message => (Some(0), Some(1024)),
                 Field::Source => (None, Some(1024)),
@@ -198,8 +199,8 @@ fn a_used_field_is_in_range() {
 }
 
 #[test]
-fn kinds_are_1_to_7() {
-    for kind in (0..=255).filter(|kind| !(1..=7).contains(kind)) {
+fn kinds_are_1_to_8() {
+    for kind in (0..=255).filter(|kind| !(1..=8).contains(kind)) {
         let step = Step {
             kind,
             ..Step::default()

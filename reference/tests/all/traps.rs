@@ -560,7 +560,7 @@ fn trap_21_bytes_of_the_fresh_world() {
     let mut image = [0xee; IMAGE_SIZE];
     operations::fresh(&mut image, 0x8000_0002, 0).unwrap();
     let mut expected = [0; IMAGE_SIZE];
-    expected[0] = 1; // version
+    expected[0] = 2; // version
     expected[4] = 1; // newest view
     expected[16] = 0x02; // members of view 1
     expected[19] = 0x80;

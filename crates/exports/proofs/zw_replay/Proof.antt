@@ -1,8 +1,6 @@
 use mathlib.Core.Path.{ap₂, _∙_}
-use Prim.Native.Nat.{ℕ, _+_, _*_}
-use native.Mathlib.Omega.{arith}
+use Prim.Native.Nat.{ℕ, _+_, _*_, _%_, _^_}
 use borrow.Author.Needs.{needs}
-use Rattle.exports.specs.Answers.{steps-low}
 use Rattle.exports.proofs.zw_replay.Statement.{statement}
 use Rattle.exports.proofs.zw_replay.Tie as tie
 
@@ -10,9 +8,7 @@ replay-requires : tie.Need-replay-requires
 replay-requires c κs = search needs
 
 packed-requires : tie.Need-packed-requires
-packed-requires c κs =
-    let a = c .before .before .before .before .before .before .args in
-    omega (arith, steps-low (a .image .now) (a .journal .now), c .before .before .replay .ensures .steps)
+packed-requires c κs = search needs
 
 same-length : tie.Need-same-length
 same-length c = search needs
@@ -20,7 +16,7 @@ same-length c = search needs
 returns : tie.Need-returns
 returns c =
     let e = c .before .before .before .replay .ensures in
-    (c .packed .ensures ∙ ap₂ (λ (x y : ℕ). x + 256 * y) (e .refusal) (e .steps), e .image)
+    (c .packed .ensures ∙ ap₂ (λ (x y : ℕ). x + 256 * (y % 2 ^ 56)) (e .refusal) (e .steps), e .image)
 
 pub zw-replay-spec : {M : Type 1} → statement M
 zw-replay-spec = tie.close (tie.spec replay-requires packed-requires same-length returns)

@@ -23,17 +23,23 @@ put-bytes-requires c κs = omega (arith, length-number (c .before .before .befor
 add-put-number : tie.Need-add-put-number
 add-put-number c = record { fits = omega (arith, length-number (c .before .before .before .before .before .before .before .before .before .before .before .before .before .before .before .args .number) 32, c .before .before .before .before .before .before .before .before .put-number .ensures .0, c .before .before .before .before .before .before .before .before .put-number .kept .0) }
 
-put-number-requires-2 : tie.Need-put-number-requires-2
-put-number-requires-2 c κs = omega (arith, length-number (c .before .before .before .before .before .before .before .before .before .before .before .before .before .before .before .args .number) 32, c .before .before .before .before .before .before .before .before .put-number .ensures .0, c .before .before .before .before .before .before .before .before .put-number .kept .0, c .before .before .before .put-bytes .kept .0)
-
 cast-put-number : tie.Need-cast-put-number
 cast-put-number c = search needs
 
+put-number-requires-2 : tie.Need-put-number-requires-2
+put-number-requires-2 c κs = omega (arith, length-number (c .before .before .before .before .before .before .before .before .before .before .before .before .before .before .before .before .args .number) 32, c .before .before .before .before .before .before .before .before .before .put-number .ensures .0, c .before .before .before .before .before .before .before .before .before .put-number .kept .0, c .before .before .before .before .put-bytes .kept .0)
+
+cast-put-number-2 : tie.Need-cast-put-number-2
+cast-put-number-2 c = search needs
+
 put-number-requires-3 : tie.Need-put-number-requires-3
-put-number-requires-3 c κs = omega (arith, length-number (c .before .before .before .before .before .before .before .before .before .before .before .before .before .before .before .before .before .before .before .before .args .number) 32, c .before .before .before .before .before .before .before .before .before .before .before .before .before .put-number .ensures .0, c .before .before .before .before .before .before .before .before .before .before .before .before .before .put-number .kept .0, c .before .before .before .before .before .before .before .before .put-bytes .kept .0, length-number (countOf (c .before .before .before .before .before .before .before .before .before .before .before .before .before .before .before .before .before .before .before .before .args .c .entry)) 32, c .before .before .before .before .put-number2 .ensures .0, c .before .before .before .before .put-number2 .kept .0)
+put-number-requires-3 c κs = omega (arith, length-number (c .before .before .before .before .before .before .before .before .before .before .before .before .before .before .before .before .before .before .before .before .before .args .number) 32, c .before .before .before .before .before .before .before .before .before .before .before .before .before .before .put-number .ensures .0, c .before .before .before .before .before .before .before .before .before .before .before .before .before .before .put-number .kept .0, c .before .before .before .before .before .before .before .before .before .put-bytes .kept .0, length-number (countOf (c .before .before .before .before .before .before .before .before .before .before .before .before .before .before .before .before .before .before .before .before .before .args .c .entry)) 32, c .before .before .before .before .put-number2 .ensures .0, c .before .before .before .before .put-number2 .kept .0)
+
+cast-put-number-3 : tie.Need-cast-put-number-3
+cast-put-number-3 c = search needs
 
 put-number-requires-4 : tie.Need-put-number-requires-4
-put-number-requires-4 c κs = omega (arith, length-number (c .before .before .before .before .before .before .before .before .before .before .before .before .before .before .before .before .before .before .before .before .before .before .before .before .args .number) 32, c .before .before .before .before .before .before .before .before .before .before .before .before .before .before .before .before .before .put-number .ensures .0, c .before .before .before .before .before .before .before .before .before .before .before .before .before .before .before .before .before .put-number .kept .0, c .before .before .before .before .before .before .before .before .before .before .before .before .put-bytes .kept .0, length-number (countOf (c .before .before .before .before .before .before .before .before .before .before .before .before .before .before .before .before .before .before .before .before .before .before .before .before .args .c .entry)) 32, c .before .before .before .before .before .before .before .before .put-number2 .ensures .0, c .before .before .before .before .before .before .before .before .put-number2 .kept .0, length-number (writerOf (c .before .before .before .before .before .before .before .before .before .before .before .before .before .before .before .before .before .before .before .before .before .before .before .before .args .c .entry)) 32, c .before .before .before .put-number3 .ensures .0, c .before .before .before .put-number3 .kept .0)
+put-number-requires-4 c κs = omega (arith, length-number (c .before .before .before .before .before .before .before .before .before .before .before .before .before .before .before .before .before .before .before .before .before .before .before .before .before .before .args .number) 32, c .before .before .before .before .before .before .before .before .before .before .before .before .before .before .before .before .before .before .before .put-number .ensures .0, c .before .before .before .before .before .before .before .before .before .before .before .before .before .before .before .before .before .before .before .put-number .kept .0, c .before .before .before .before .before .before .before .before .before .before .before .before .before .before .put-bytes .kept .0, length-number (countOf (c .before .before .before .before .before .before .before .before .before .before .before .before .before .before .before .before .before .before .before .before .before .before .before .before .before .before .args .c .entry)) 32, c .before .before .before .before .before .before .before .before .before .put-number2 .ensures .0, c .before .before .before .before .before .before .before .before .before .put-number2 .kept .0, length-number (writerOf (c .before .before .before .before .before .before .before .before .before .before .before .before .before .before .before .before .before .before .before .before .before .before .before .before .before .before .args .c .entry)) 32, c .before .before .before .before .put-number3 .ensures .0, c .before .before .before .before .put-number3 .kept .0)
 
 same-length : tie.Need-same-length
 same-length c = search needs
@@ -41,11 +47,11 @@ same-length c = search needs
 returns : tie.Need-returns
 unfolding operationLine
 returns c =
-    let a = begun (c .before .before .before .before .before .before .before .before .before .before .before .before .before .before .before .before .before .before .before .before .before .before .before .before .before .before .before .args .out .now) _ _ _ (c .before .before .before .before .before .before .before .before .before .before .before .before .before .before .before .before .before .before .before .before .put-number .ensures .0) (c .before .before .before .before .before .before .before .before .before .before .before .before .before .before .before .before .before .before .before .before .put-number .ensures .1) in
-    let b = grown a (letterOf (c .before .before .before .before .before .before .before .before .before .before .before .before .before .before .before .before .before .before .before .before .before .before .before .before .before .before .before .args .c .kind) ∷ 32 ∷ []) _ (c .before .before .before .before .before .before .before .before .before .before .before .before .before .before .before .before .before .before .before .before .put-number .result + 2) refl
-    (letter-put _ _ _ _ _ (c .before .before .before .before .before .before .before .before .before .before .before .before .before .before .before .before .before .before .before .before .before .before .letter .ensures) (c .before .before .before .before .before .before .before .before .before .before .before .before .before .before .before .put-bytes .ensures)) in
-    let d = grown b _ _ _ (c .before .before .before .before .before .before .before .before .before .before .before .put-number2 .ensures .0) (c .before .before .before .before .before .before .before .before .before .before .before .put-number2 .ensures .1) in
-    let e = grown d _ _ _ (c .before .before .before .before .before .before .put-number3 .ensures .0) (c .before .before .before .before .before .before .put-number3 .ensures .1) in
+    let a = begun (c .before .before .before .before .before .before .before .before .before .before .before .before .before .before .before .before .before .before .before .before .before .before .before .before .before .before .before .before .before .args .out .now) _ _ _ (c .before .before .before .before .before .before .before .before .before .before .before .before .before .before .before .before .before .before .before .before .before .before .put-number .ensures .0) (c .before .before .before .before .before .before .before .before .before .before .before .before .before .before .before .before .before .before .before .before .before .before .put-number .ensures .1) in
+    let b = grown a (letterOf (c .before .before .before .before .before .before .before .before .before .before .before .before .before .before .before .before .before .before .before .before .before .before .before .before .before .before .before .before .before .args .c .kind) ∷ 32 ∷ []) _ (c .before .before .before .before .before .before .before .before .before .before .before .before .before .before .before .before .before .before .before .before .before .before .put-number .result + 2) refl
+    (letter-put _ _ _ _ _ (c .before .before .before .before .before .before .before .before .before .before .before .before .before .before .before .before .before .before .before .before .before .before .before .before .letter .ensures) (c .before .before .before .before .before .before .before .before .before .before .before .before .before .before .before .before .before .put-bytes .ensures)) in
+    let d = grown b _ _ _ (c .before .before .before .before .before .before .before .before .before .before .before .before .put-number2 .ensures .0) (c .before .before .before .before .before .before .before .before .before .before .before .before .put-number2 .ensures .1) in
+    let e = grown d _ _ _ (c .before .before .before .before .before .before .before .put-number3 .ensures .0) (c .before .before .before .before .before .before .before .put-number3 .ensures .1) in
     let f = grown e _ _ _ (c .before .before .put-number4 .ensures .0) (c .before .before .put-number4 .ensures .1) in
     (f .place, f .is)
 
@@ -58,9 +64,11 @@ operation-line-spec =
     slice-aggregate-put-bytes
     put-bytes-requires
     add-put-number
-    put-number-requires-2
     cast-put-number
+    put-number-requires-2
+    cast-put-number-2
     put-number-requires-3
+    cast-put-number-3
     put-number-requires-4
     same-length
     returns)

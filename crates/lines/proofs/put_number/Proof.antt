@@ -1,6 +1,6 @@
 use native.Mathlib.Omega.{arith}
 use borrow.Author.Needs.{needs}
-use Rattle.lines.specs.Lines.{length-digits, number-put}
+use Rattle.lines.specs.Lines.{mostDigits, length-digits, number-put}
 use Rattle.lines.proofs.put_number.Statement.{statement}
 use Rattle.lines.proofs.put_number.Tie as tie
 
@@ -11,10 +11,10 @@ slice-aggregate-put-bytes : tie.Need-slice-aggregate-put-bytes
 slice-aggregate-put-bytes c = search needs
 
 put-bytes-requires : tie.Need-put-bytes-requires
-put-bytes-requires c κs = omega (arith, length-digits 10 (c .before .before .before .before .before .before .before .args .n), c .before .before .before .before .put-digits .ensures .0, c .before .before .before .before .put-digits .kept .0)
+put-bytes-requires c κs = omega (arith, length-digits mostDigits (c .before .before .before .before .before .before .before .args .n), c .before .before .before .before .put-digits .ensures .0, c .before .before .before .before .put-digits .kept .0)
 
 add-result : tie.Need-add-result
-add-result c = record { fits = omega (arith, length-digits 10 (c .before .before .before .before .before .before .before .before .before .before .args .n), c .before .before .before .before .before .before .before .put-digits .ensures .0, c .before .before .before .before .before .before .before .before .before .before .good .0 .0) }
+add-result c = record { fits = omega (arith, length-digits mostDigits (c .before .before .before .before .before .before .before .before .before .before .args .n), c .before .before .before .before .before .before .before .put-digits .ensures .0, c .before .before .before .before .before .before .before .before .before .before .good .0 .0) }
 
 same-length : tie.Need-same-length
 same-length c = search needs

@@ -8,8 +8,8 @@ use Rattle.protocol.specs.Types.{Entry, Server, Message, Idle, Reading, 
 use Rattle.protocol.specs.Tools.{countTo, holds}
 use Rattle.protocol.specs.Sizes.{servers, readSize, writeSize}
 use Rattle.protocol.specs.Entries.{empty}
-use Rattle.protocol.specs.Servers.{WRITE, END, START, ANSWER, isRequest}
-use Rattle.protocol.specs.Clients.{number, toWrite}
+use Rattle.protocol.specs.Servers.{READ, WRITE, END, START, ANSWER, isRequest}
+use Rattle.protocol.specs.Clients.{number, toWrite, givenBy}
 use Rattle.protocol.specs.Worlds.{World, view, server, client, newest, member}
 use Rattle.protocol.specs.Laws.Entries.{_≼_}
 use Rattle.protocol.specs.Laws.Worlds.{sent}
@@ -128,6 +128,7 @@ pub record Closed (w v : World) (c r : ℕ) : Type 0 where
   pub writes : sent v (v .used) .kind ≡ WRITE
   pub sender : sent v (v .used) .sender ≡ c
   pub carries : sent v (v .used) .entry ≡ toWrite (client w c) c entry
+  pub given : client v c .given ≡ givenBy (client w c) entry
 
 -- a WRITE phase closed
 pub record Kept (w : World) (r : ℕ) : Type 0 where
@@ -142,12 +143,13 @@ pub record Kept (w : World) (r : ℕ) : Type 0 where
 pub data Acted (w v : World) (done starter kind c : ℕ) : Type 0 where
   same : client v c ≡ client w c → (done ≡ c → ⊥) → (starter ≡ c → ⊥) → Acted w v done starter kind c
   began : starter ≡ c → (done ≡ c → ⊥) → v .used ≡ w .used + 1 → client w c .phase ≡ Idle → client v c .phase ≡ Reading (number (v .used))
-      → client v c .kind ≡ kind → Acted w v done starter kind c
+      → client v c .kind ≡ kind → client v c .given ≡ client w c .given → Acted w v done starter kind c
   wrote : (r : ℕ) → (done ≡ c → ⊥) → (starter ≡ c → ⊥) → v .used ≡ w .used + 1 → client w c .phase ≡ Reading (number r)
       → client v c .phase ≡ Writing (number (v .used)) → client v c .kind ≡ client w c .kind → client v c .entry ≡ sent v (v .used) .entry
       → Closed w v c r → Acted w v done starter kind c
   ended : (r : ℕ) → done ≡ c → (starter ≡ c → ⊥) → client w c .phase ≡ Writing (number r) → client v c .phase ≡ Idle
-      → client v c .entry ≡ client w c .entry → Kept w r → Acted w v done starter kind c
+      → client v c .entry ≡ client w c .entry → client v c .given ≡ client w c .given → Kept w r → Acted w v done starter kind c
+  gave-up : (done ≡ c → ⊥) → (starter ≡ c → ⊥) → client v c .phase ≡ Idle → client v c .given ≡ client w c .given → Acted w v done starter kind c
 
 -- a WRITE is sent by a client whose READ phase closed
 pub record Writer (w v : World) (m : Message) : Type 0 where

@@ -1,5 +1,5 @@
 -- Readable worlds by their clauses: `formed` takes the sentence apart, `well-formed` puts it together. Used by all that rests on a
--- readable world: what the steps keep (`preservation`), what an image holds (`image`), the bound on steps (`bounds`).
+-- readable world: what the steps keep (`preservation`), what an image holds (`image`).
 use Prim.Native.Nat.{ℕ, suc, _≤_}
 use mathlib.Core.Bool.{true}
 use mathlib.Core.Path.{_≡_}

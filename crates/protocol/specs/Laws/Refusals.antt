@@ -16,9 +16,9 @@ use Rattle.protocol.specs.Types.{Entry, View, Server, Phase, Idle, Readi
 use Rattle.protocol.specs.Tools.{if, within, Result, refused, done, guard, then, numberOf}
 use Rattle.protocol.specs.Sizes.{quorumSize, writeSize}
 use Rattle.protocol.specs.Servers.{READ, WRITE, END, START, start, serve, mayAnswer}
-use Rattle.protocol.specs.Clients.{begin, closeSize, closeBy, close, call}
+use Rattle.protocol.specs.Clients.{begin, giveUp, closeSize, closeBy, close, call}
 use Rattle.protocol.specs.Worlds.{World, view, client, message, newest, fresh}
-use Rattle.protocol.specs.Steps.{After, answers, takenWith, begins, deliver, closes, starts, takes, take, fault, lie, newView, perform, step}
+use Rattle.protocol.specs.Steps.{After, answers, takenWith, begins, deliver, closes, starts, takes, take, fault, lie, newView, givesUp, perform, step}
 use Rattle.protocol.specs.Chains.{enough}
 use Rattle.protocol.specs.Runs.{stepBytes, Replayed, onward, replay}
 use Rattle.protocol.specs.Laws.Tests.{and-left, and-right, or-cases, within-true}
@@ -34,10 +34,10 @@ pub record Refuses {A : Type 0} (ns : List ℕ) (x : Result A) : Type 0 where
 
 -- the refusals of steps: 0 is none of them
 abbrev pub lastRefusal : ℕ
-lastRefusal = 11
+lastRefusal = 12
 
 abbrev pub refusals : List ℕ
-refusals = 1 ∷ 2 ∷ 3 ∷ 4 ∷ 5 ∷ 6 ∷ 7 ∷ 8 ∷ 9 ∷ 10 ∷ 11 ∷ []
+refusals = 1 ∷ 2 ∷ 3 ∷ 4 ∷ 5 ∷ 6 ∷ 7 ∷ 8 ∷ 9 ∷ 10 ∷ 11 ∷ 12 ∷ []
 
 -- ---- through a definition
 
@@ -213,6 +213,11 @@ unfolding newView
 new-view-refuses w v =
     refuses-then _ _ _ (refuses-more (4 ∷ 8 ∷ []) _ _ refl (call-refuses _ _ _)) (λ a. refuses-guard _ _ _ _ refl (refuses-done _ _))
 
+-- "Giving up ...: 12, the client is idle"
+gives-up-refuses : (w : World) (c : ℕ) → Refuses (12 ∷ []) (givesUp w c)
+unfolding givesUp giveUp
+gives-up-refuses w c = refuses-then _ _ _ (refuses-guard _ _ _ _ refl (refuses-done _ _)) (λ a. refuses-done _ _)
+
 perform-refuses : (w : World) (st : Step) → Refuses refusals (perform w st)
 unfolding perform
 perform-refuses w st =
@@ -222,7 +227,8 @@ perform-refuses w st =
     (refuses-if _ (eqb (st .kind) 4) _ _ (refuses-more takeNumbers _ _ refl (take-refuses _ _))
     (refuses-if _ (eqb (st .kind) 5) _ _ (refuses-more (6 ∷ []) _ _ refl (fault-refuses _ _))
     (refuses-if _ (eqb (st .kind) 6) _ _ (refuses-more (5 ∷ 6 ∷ 9 ∷ 10 ∷ []) _ _ refl (lie-refuses _ _ _ _ _))
-    (refuses-more (4 ∷ 8 ∷ 10 ∷ []) _ _ refl (new-view-refuses _ _)))))))
+    (refuses-if _ (eqb (st .kind) 7) _ _ (refuses-more (4 ∷ 8 ∷ 10 ∷ []) _ _ refl (new-view-refuses _ _))
+    (refuses-more (12 ∷ []) _ _ refl (gives-up-refuses _ _))))))))
 
 pub step-refuses : (w : World) (st : Step) → Refuses refusals (step w st)
 unfolding step

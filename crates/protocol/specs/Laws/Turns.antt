@@ -14,13 +14,13 @@ use Rattle.protocol.specs.Tools.{if, nth, Result, refused, done, guard, 
 use Rattle.protocol.specs.Sizes.{clients, views, messages, sized, readSize, writeSize}
 use Rattle.protocol.specs.Entries.{entry, empty, chosen}
 use Rattle.protocol.specs.Servers.{READ, WRITE, END, START, ANSWER}
-use Rattle.protocol.specs.Clients.{WRITES, READS, number, isIdle, requestOf, begin, closeSize, toWrite, Close, closeBy, close, isEnding, endOf, call, advance}
+use Rattle.protocol.specs.Clients.{WRITES, READS, number, isIdle, requestOf, begin, giveUp, closeSize, toWrite, givenBy, Close, closeBy, close, isEnding, endOf, call, advance}
 use Rattle.protocol.specs.Worlds.{World, noClient, view, server, client, message, newest, present, room, withClient, withView, withMessage, withAdministrator, send, nextNumber}
 use Rattle.protocol.specs.Chains.{enough, shown}
-use Rattle.protocol.specs.Steps.{After, moved, request, begins, link, open?, takenWith, closes, starts, takes, take, newView, fieldsFit, writeStep, readStep, deliverStep, takeStep, faultStep, falseStep, viewStep, uses, viewAsked, step}
-use Rattle.protocol.specs.Laws.Tests.{and-left, and-right, or-cases, clash, went}
+use Rattle.protocol.specs.Steps.{After, moved, request, begins, link, open?, takenWith, closes, starts, takes, take, newView, givesUp, deliver, fault, lie, fieldsFit, writeStep, readStep, deliverStep, takeStep, faultStep, falseStep, viewStep, giveUpStep, rowOf, viewAsked, step}
+use Rattle.protocol.specs.Laws.Tests.{and-left, and-right, or-cases, clash, within-true, went}
 use Rattle.protocol.specs.Laws.Worlds.{content, sent, sent-link, client-same, client-other, view-same, view-other, length-replace}
-use Rattle.protocol.specs.Laws.Change.{Votes, To, Chosen, Started, Closed, Kept, Acted, same, began, wrote, ended, none as unsent}
+use Rattle.protocol.specs.Laws.Change.{Votes, To, Chosen, Started, Closed, Kept, Acted, same, began, wrote, ended, gave-up, New, none as unsent}
 use Rattle.protocol.specs.Laws.Sound.{Sized, Sound, mail-same, mail-link, sized-same, sound-send, Taking, close-votes, close-chosen, link-count}
 use Rattle.protocol.specs.Laws.Kinds.{IsClient, client-of, server-of, by-kind}
 use Rattle.protocol.specs.Laws.Moves.{done-is, apart, is-done, grew-refl, Post, post, posted, quiet, idle-acted, room-left, present-is, Lawful, fault-lawful, deliver-lawful, lie-lawful}
@@ -58,7 +58,8 @@ client-sound {w} h c a =
 
 -- ---- write and read
 
-module _ {w : World} (h : Sound w) {c : ℕ} (r : IsClient c) (l : w .used < messages) (kind : ℕ) (a : Client) (i : client w c .phase ≡ Idle) (p : a .phase ≡ Reading (number (w .used + 1))) (k : a .kind ≡ kind) where
+module _ {w : World} (h : Sound w) {c : ℕ} (r : IsClient c) (l : w .used < messages) (kind : ℕ) (a : Client) (i : client w c .phase ≡ Idle) (p : a .phase ≡ Reading (number (w .used + 1))) (k : a .kind ≡ kind)
+    (g : a .given ≡ client w c .given) where
   abbrev begun : World
   begun = send (withClient w c a) (request READ c 0 empty)
 
@@ -79,7 +80,8 @@ module _ {w : World} (h : Sound w) {c : ℕ} (r : IsClient c) (l : w .used < mes
   begun-acted x n = go (ℕ-discrete x c)
     where
       go : Dec (x ≡ c) → Acted w begun 0 c kind x
-      go (yes q) = rw q (began refl (λ z. omega (arith, r .low)) refl i (ap (λ (y : Client). y .phase) begun-client ∙ p) (ap (λ (y : Client). y .kind) begun-client ∙ k))
+      go (yes q) = rw q (began refl (λ z. omega (arith, r .low)) refl i (ap (λ (y : Client). y .phase) begun-client ∙ p) (ap (λ (y : Client). y .kind) begun-client ∙ k)
+          (ap (λ (y : Client). y .given) begun-client ∙ g))
       go (no q) = same (begun-other x q) (λ z. omega arith) (λ z. q (sym z))
 
   begun-lawful : Lawful w begun 0 c kind
@@ -103,7 +105,36 @@ begins-lawful {w} h {c} r kind value a e =
     let (l, e1) = passed _ _ _ _ (g .on) in
     let q = is-done f in
     subst (λ (x : After). Lawful w (x .world) (x .completed) c kind) (done-is e1)
-    (begun-lawful h r (room-left w l) kind (g .value) (idle-is _ i) (ap (λ (y : Client). y .phase) q) (ap (λ (y : Client). y .kind) q))
+    (begun-lawful h r (room-left w l) kind (g .value) (idle-is _ i) (ap (λ (y : Client). y .phase) q) (ap (λ (y : Client). y .kind) q)
+    (ap (λ (y : Client). y .given) q))
+
+-- "Giving up an operation": accepted
+pub givesUp-lawful : {w : World} → Sound w → {c : ℕ} → IsClient c → (a : After) → givesUp w c ≡ done a → (kind : ℕ) → Lawful w (a .world) (a .completed) 0 kind
+unfolding givesUp giveUp withClient server view sent message
+givesUp-lawful {w} h {c} r a e kind =
+    let g = went _ _ _ e in
+    let (i, f) = passed _ _ _ _ (g .is) in
+    let q = is-done f in
+    subst (λ (x : After). Lawful w (x .world) (x .completed) 0 kind) (done-is (g .on))
+    (left-lawful (g .value) (ap (λ (y : Client). y .phase) q) (ap (λ (y : Client). y .given) q))
+  where
+    left-lawful : (b : Client) → b .phase ≡ Idle → b .given ≡ client w c .given → Lawful w (withClient w c b) 0 0 kind
+    left-lawful b p g =
+        record {
+          sound = client-sound h c b;
+          moved = record {
+            change = record { old = λ i l. refl; posted = unsent refl refl; views = λ t l. refl; grew = λ s. grew-refl (server w s) };
+            acted = λ x l. go x l (ℕ-discrete x c);
+          };
+        }
+      where
+        is : client (withClient w c b) c ≡ b
+        is = client-same w c b (r .low) (omega (arith, r .high, h .clientCount))
+
+        go : (x : ℕ) → 1 ≤ x → Dec (x ≡ c) → Acted w (withClient w c b) 0 0 kind x
+        go x l (yes z) =
+            rw z (gave-up (λ n. omega (arith, r .low)) (λ n. omega (arith, r .low)) (ap (λ (y : Client). y .phase) is ∙ p) (ap (λ (y : Client). y .given) is ∙ g))
+        go x l (no z) = same (client-other w c b x z) (λ n. omega arith) (λ n. omega arith)
 
 -- ---- take: the answer k, with view t, to request r
 
@@ -167,8 +198,9 @@ module _ {w : World} (h : Sound w) {k r t : ℕ} (y : Taking w k r t) where
     turned-count = link-count w k
 
     -- a WRITE phase: its operation is complete
-    ended-lawful : (q : ℕ) → client w c .phase ≡ Writing (number q) → a .phase ≡ Idle → a .entry ≡ client w c .entry → Kept w q → (kind : ℕ) → Lawful w turned c 0 kind
-    ended-lawful q p f e v kind =
+    ended-lawful : (q : ℕ) → client w c .phase ≡ Writing (number q) → a .phase ≡ Idle → a .entry ≡ client w c .entry → a .given ≡ client w c .given → Kept w q
+        → (kind : ℕ) → Lawful w turned c 0 kind
+    ended-lawful q p f e g v kind =
         record {
           sound = client-sound link-sound c a;
           moved = record {
@@ -179,12 +211,13 @@ module _ {w : World} (h : Sound w) {k r t : ℕ} (y : Taking w k r t) where
       where
         go : (x : ℕ) → 1 ≤ x → Dec (x ≡ c) → Acted w turned c 0 kind x
         go x l (yes z) =
-            rw z (ended q refl (λ n. omega (arith, i .low)) p (ap (λ (b : Client). b .phase) turned-client ∙ f) (ap (λ (b : Client). b .entry) turned-client ∙ e) v)
+            rw z (ended q refl (λ n. omega (arith, i .low)) p (ap (λ (b : Client). b .phase) turned-client ∙ f) (ap (λ (b : Client). b .entry) turned-client ∙ e)
+            (ap (λ (b : Client). b .given) turned-client ∙ g) v)
         go x l (no z) = same (turned-other x z) (λ n. z (sym n)) (λ n. omega arith)
 
     -- a READ phase: its WRITE is sent
     module _ (l : w .used < messages) (q : ℕ) (e : Entry) (p : client w c .phase ≡ Reading (number q)) (f : a .phase ≡ Writing (number (w .used + 1))) (b : a .kind ≡ client w c .kind)
-        (d : a .entry ≡ toWrite (client w c) c e) (vs : Votes w t (readSize (view w t)) (λ s j. To w q e j)) (ch : Chosen w t q e) where
+        (d : a .entry ≡ toWrite (client w c) c e) (g : a .given ≡ givenBy (client w c) e) (vs : Votes w t (readSize (view w t)) (λ s j. To w q e j)) (ch : Chosen w t q e) where
       abbrev wrotten : World
       wrotten = send turned (request WRITE c 0 (a .entry))
 
@@ -213,6 +246,7 @@ module _ {w : World} (h : Sound w) {k r t : ℕ} (y : Taking w k r t) where
             writes = ap (λ (m : Message). m .kind) (wrote-post .new);
             sender = ap (λ (m : Message). m .sender) (wrote-post .new);
             carries = ap (λ (m : Message). m .entry) (wrote-post .new) ∙ d;
+            given = ap (λ (y : Client). y .given) wrote-client ∙ g;
           }
 
       wrote-acted : (kind x : ℕ) → 1 ≤ x → Acted w wrotten 0 0 kind x
@@ -337,11 +371,11 @@ module _ {w : World} (h : Sound w) {k r t : ℕ} (y : Taking w k r t) where
           let (l, e1) = passed _ _ _ _ (rw (ap (λ (z : Close). z .complete) d) at e) in
           subst (λ (z : After). Lawful w (z .world) (z .completed) 0 kind) (done-is e1)
           (wrote-lawful i (x .client) (room-left w l) r e′ (p ∙ ap Reading (as-number o)) (ap (λ (z : Close). z .client .phase) d) (ap (λ (z : Close). z .client .kind) d)
-          (ap (λ (z : Close). z .client .entry) d) (close-votes y _ en) (close-chosen y) kind)
+          (ap (λ (z : Close). z .client .entry) d) (ap (λ (z : Close). z .client .given) d) (close-votes y _ en) (close-chosen y) kind)
       go (Writing q) p o en x f e =
           let d = is-done f in
           subst (λ (z : After). Lawful w (z .world) (z .completed) 0 kind) (done-is (rw (ap (λ (z : Close). z .complete) d) at e))
-          (ended-lawful i (x .client) r (p ∙ ap Writing (as-number o)) (ap (λ (z : Close). z .client .phase) d) (ap (λ (z : Close). z .client .entry) d)
+          (ended-lawful i (x .client) r (p ∙ ap Writing (as-number o)) (ap (λ (z : Close). z .client .phase) d) (ap (λ (z : Close). z .client .entry) d) (ap (λ (z : Close). z .client .given) d)
           (record { tag = t; entry = e′; votes = close-votes y _ en; chosen = close-chosen y }) kind)
 
   starts-lawful : message w r .kind ≡ END → endOf (w .administrator .ending) ≡ r → t ≡ newest w → enough w t (takenWith w k) (writeSize (view w t)) ≡ true
@@ -494,7 +528,7 @@ starter st = if (eqb (st .kind) WRITES || eqb (st .kind) READS) (st .who) 0
 
 -- Every accepted step is lawful.
 pub step-lawful : {w : World} → Sound w → (st : Step) (a : After) → step w st ≡ done a → Lawful w (a .world) (a .completed) (starter st) (st .kind)
-unfolding step uses
+unfolding step rowOf
 step-lawful {w} h st a e =
     let (f, e1) = passed _ _ _ _ e in
     by-kind w st f (λ x. x ≡ done a → Lawful w (a .world) (a .completed) (starter st) (st .kind))
@@ -505,11 +539,12 @@ step-lawful {w} h st a e =
     (λ q e. rw q (fault-lawful h (st .who) (server-of st faultStep f q refl refl) a e faultStep))
     (λ q e. rw q (lie-lawful h (st .who) (st .view .0) (st .message .0) (st .source .0) a e falseStep))
     (λ q e. rw q (newView-lawful h (viewAsked st) a e viewStep))
+    (λ q e. rw q (givesUp-lawful h (client-of st giveUpStep f q refl) a e giveUpStep))
     e1
 
 -- a step that begins an operation names its client
 pub step-starter : (w : World) (st : Step) (a : After) → step w st ≡ done a → (eqb (st .kind) WRITES || eqb (st .kind) READS) ≡ true → 1 ≤ st .who
-unfolding step uses
+unfolding step rowOf
 step-starter w st a e t =
     let (f, e1) = passed _ _ _ _ e in
     go f (or-cases _ _ t)

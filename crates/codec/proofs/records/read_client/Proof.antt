@@ -28,15 +28,28 @@ part-read-entry-end c = search needs
 read-entry-requires : tie.Need-read-entry-requires
 read-entry-requires c κs = search needs
 
-shared-slice-read-t6 : tie.Need-shared-slice-read-t6
-shared-slice-read-t6 c = search needs
+get32-requires : tie.Need-get32-requires
+get32-requires c κs = search needs
+
+shared-slice-read-t7 : tie.Need-shared-slice-read-t7
+shared-slice-read-t7 c = search needs
 
 returns : tie.Need-returns
 unfolding clientOf part
-returns c = rw (c .before .read-entry .ensures, c .before .before .before .phase-of .ensures, c .before .before .before .before .before .get16 .ensures)
+returns c = rw (c .before .get32 .ensures, c .before .before .read-entry .ensures, c .before .before .before .before .phase-of .ensures, c .before .before .before .before .before .before .get16 .ensures)
 
 pub read-client-spec : {M : Type 1} → statement M
 read-client-spec =
     tie.close
-    (tie.spec get16-requires shared-slice-read-phase-of phase-of-requires add-read-entry sub-read-entry part-read-entry-start part-read-entry-end
-    read-entry-requires shared-slice-read-t6 returns)
+    (tie.spec
+    get16-requires
+    shared-slice-read-phase-of
+    phase-of-requires
+    add-read-entry
+    sub-read-entry
+    part-read-entry-start
+    part-read-entry-end
+    read-entry-requires
+    get32-requires
+    shared-slice-read-t7
+    returns)

@@ -15,13 +15,17 @@ returns c = simp (sym (c .before .count-left .ensures) ∙ not-true (c .before .
 to-write-requires : tie.Need-to-write-requires
 to-write-requires c κs = sym (c .before .count-left .ensures) ∙ not-false (c .before .count-left .result) (c .if1 .left)
 
+given-by-requires : tie.Need-given-by-requires
+given-by-requires c κs = sym (c .before .before .count-left .ensures) ∙ not-false (c .before .before .count-left .result) (c .before .if1 .left)
+
 returns-2 : tie.Need-returns-2
 unfolding guard
 returns-2 c =
     simp (
-      c .to-write .ensures,
-      sym (c .before .before .count-left .ensures) ∙ not-false (c .before .before .count-left .result) (c .before .if1 .left),
+      c .given-by .ensures,
+      c .before .to-write .ensures,
+      sym (c .before .before .before .count-left .ensures) ∙ not-false (c .before .before .before .count-left .result) (c .before .before .if1 .left),
     )
 
 pub close-read-spec : {M : Type 1} → statement M
-close-read-spec = tie.close (tie.spec count-left-requires returns to-write-requires returns-2)
+close-read-spec = tie.close (tie.spec count-left-requires returns to-write-requires given-by-requires returns-2)

@@ -1,5 +1,7 @@
-use borrow.Author.Tests.{eq-eqb, ne-eqb}
+use borrow.Author.Needs.{needs}
+use borrow.Author.Tests.{ne-eqb}
 use Rattle.protocol.specs.Clients.{countLeft}
+use Rattle.machines.specs.Clients.{count-fits}
 use Rattle.machines.proofs.clients.count_left.Statement.{statement}
 use Rattle.machines.proofs.clients.count_left.Tie as tie
 
@@ -7,9 +9,11 @@ returns : tie.Need-returns
 unfolding countLeft
 returns c = simp (ne-eqb _ _ (c .if1 .taken))
 
+count-before-requires : tie.Need-count-before-requires
+count-before-requires c κs = search needs
+
 returns-2 : tie.Need-returns-2
-unfolding countLeft
-returns-2 c = simp (eq-eqb _ _ (c .before .if1 .left))
+returns-2 c = count-fits _ _ _ (c .count-before .ensures) (c .before .if1 .left)
 
 pub count-left-spec : {M : Type 1} → statement M
-count-left-spec = tie.close (tie.spec returns returns-2)
+count-left-spec = tie.close (tie.spec returns count-before-requires returns-2)

@@ -1,39 +1,46 @@
 use mathlib.Core.Path.{refl}
 use Rattle.codec.specs.Images.{decode}
-use Rattle.protocol.specs.Steps.{uses}
-use Rattle.protocol.specs.Laws.Kinds.{client-of as who-client, server-of as who-server}
+use Rattle.protocol.specs.Steps.{rowOf}
+use Rattle.protocol.specs.Laws.Kinds.{client-of as who-client, server-of as who-server, source-of, kind-last}
 use Rattle.world.specs.Stored.{by}
-use Rattle.world.specs.Checks.{source-low}
-use Rattle.world.specs.Performs.{as-write, as-read, as-deliver, as-take, as-fault, as-false, as-view}
+use Rattle.world.specs.Performs.{as-write, as-read, as-deliver, as-take, as-fault, as-false, as-view, as-give-up}
 use borrow.Author.Needs.{needs}
 use Rattle.world.proofs.step.perform.Statement.{statement}
 use Rattle.world.proofs.step.perform.Tie as tie
 
 begins-requires : tie.Need-begins-requires
-unfolding uses
+unfolding rowOf
 begins-requires c κs = let d = c .before .before .before .before .before .before in let i = who-client (d .args .st) 1 (d .pre .1) (c .before .match .keys1) refl in (d .pre .0, i .low, i .high)
 
 begins-requires-2 : tie.Need-begins-requires-2
-unfolding uses
+unfolding rowOf
 begins-requires-2 c κs = let d = c .before .before .before .before .before .before in let i = who-client (d .args .st) 2 (d .pre .1) (c .before .match .keys2) refl in (d .pre .0, i .low, i .high)
 
 deliver-requires : tie.Need-deliver-requires
-unfolding uses
+unfolding rowOf
 deliver-requires c κs = let d = c .before .before .before .before .before .before in let i = who-server (d .args .st) 3 (d .pre .1) (c .before .match .keys3) refl refl in (d .pre .0, i .low, i .high)
 
 take-requires : tie.Need-take-requires
 take-requires c κs = search needs
 
 fault-requires : tie.Need-fault-requires
-unfolding uses
+unfolding rowOf
 fault-requires c κs = let d = c .before .before .before .before .before .before in let i = who-server (d .args .st) 5 (d .pre .1) (c .before .match .keys5) refl refl in (d .pre .0, i .low, i .high)
 
 false-answer-requires : tie.Need-false-answer-requires
-unfolding uses
-false-answer-requires c κs = let d = c .before .before .before .before .before .before in let i = who-server (d .args .st) 6 (d .pre .1) (c .before .match .keys6) refl refl in (d .pre .0, i .low, i .high, source-low (d .args .st) (d .pre .1))
+unfolding rowOf
+false-answer-requires c κs = let d = c .before .before .before .before .before .before in let i = who-server (d .args .st) 6 (d .pre .1) (c .before .match .keys6) refl refl in (d .pre .0, i .low, i .high, source-of (d .args .st) (d .pre .1))
 
 new-view-requires : tie.Need-new-view-requires
 new-view-requires c κs = search needs
+
+gives-up-requires : tie.Need-gives-up-requires
+unfolding rowOf
+gives-up-requires c κs =
+    let d = c .before .before .before .before .before .before in
+    let r = c .before .match .rest in
+    let i = who-client (d .args .st) 8 (d .pre .1) (kind-last (d .args .st) (d .pre .1) (r .0 .0 .0 .0 .0 .0 .1) (r .0 .0 .0 .0 .0 .1) (r .0 .0 .0 .0 .1) (r .0 .0 .0 .1) (r .0 .0 .1) (r .0 .1) (r .1)) refl in
+    (d .pre .0, i .low, i .high)
 
 same-length : tie.Need-same-length
 same-length c = search needs
@@ -77,8 +84,17 @@ same-length-7 c = search needs
 returns-7 : tie.Need-returns-7
 returns-7 c =
     let d = c .before .before .before .before .before .before .before .before .before in
+    by (as-view (decode (d .args .image .now)) (d .args .st) (c .before .before .before .before .match .keys7)) (c .before .before .new-view .ensures)
+
+same-length-8 : tie.Need-same-length-8
+same-length-8 c = search needs
+
+returns-8 : tie.Need-returns-8
+returns-8 c =
+    let d = c .before .before .before .before .before .before .before .before .before in
     let r = c .before .before .before .before .match .rest in
-    by (as-view (decode (d .args .image .now)) (d .args .st) (r .0 .0 .0 .0 .0 .1) (r .0 .0 .0 .0 .1) (r .0 .0 .0 .1) (r .0 .0 .1) (r .0 .1) (r .1)) (c .before .before .new-view .ensures)
+    by (as-give-up (decode (d .args .image .now)) (d .args .st) (kind-last (d .args .st) (d .pre .1) (r .0 .0 .0 .0 .0 .0 .1) (r .0 .0 .0 .0 .0 .1) (r .0 .0 .0 .0 .1) (r .0 .0 .0 .1) (r .0 .0 .1) (r .0 .1) (r .1)))
+    (c .before .before .gives-up .ensures)
 
 pub perform-spec : {M : Type 1} → statement M
 perform-spec =
@@ -91,6 +107,7 @@ perform-spec =
     fault-requires
     false-answer-requires
     new-view-requires
+    gives-up-requires
     same-length
     returns
     same-length-2
@@ -104,4 +121,6 @@ perform-spec =
     same-length-6
     returns-6
     same-length-7
-    returns-7)
+    returns-7
+    same-length-8
+    returns-8)

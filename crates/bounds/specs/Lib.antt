@@ -1,3 +1,0 @@
-pub mod Progress
-pub mod Moves
-pub mod Theorem

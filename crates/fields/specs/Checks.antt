@@ -1,0 +1,74 @@
+-- Check 3 by the row of its kind, in two halves, as the code tests it: `placesFit`, `numbersFit`; that both are the check, `known-row`;
+-- a kind outside the table, `unknown-low`, `unknown-high`. Used by the proofs of this crate alone. Assumes nothing.
+use Prim.Native.Nat.{ℕ, _≤_, _<_}
+use mathlib.Core.Bool.{Bool, true, false, _&&_}
+use mathlib.Core.Path.{_≡_, refl, sym, ap, _∙_}
+use lib.Dec.{leb, eqb}
+use lib.ListN.{List·getD-eq-default}
+use borrow.Author.Tests.{le-leb, lt-leb}
+use Rattle.protocol.specs.declared.Step.{Step}
+use Rattle.protocol.specs.declared.Range.{Range}
+use Rattle.protocol.specs.Steps.{writeStep, giveUpStep, CLIENT, SERVER, VIEW, F, MESSAGE, SOURCE, VALUE, fieldTable, rowOf, inRow, field, fieldsFit}
+use Rattle.protocol.specs.Steps.{clientRange, serverRange, viewRange, thresholdRange, messageRange, sourceRange, valueRange, whoUsed, whoRange}
+
+-- who, view and f; message, source and value
+abbrev pub placesFit : ℕ → Step → Bool
+placesFit row st = field (whoUsed row) (whoRange row) (st .who) && (field (inRow row VIEW) viewRange (st .view .0) && field (inRow row F) thresholdRange (st .f))
+
+abbrev pub numbersFit : ℕ → Step → Bool
+numbersFit row st =
+    field (inRow row MESSAGE) messageRange (st .message .0)
+    && (field (inRow row SOURCE) sourceRange (st .source .0) && field (inRow row VALUE) valueRange (st .value))
+
+-- a field by the tests of the code
+module _ (used : Bool) (r : Range) (x : ℕ) where
+  pub too-low : used ≡ true → x < r .low → false ≡ field used r x
+  too-low e h = rw (e, lt-leb (r .low) x h) refl
+
+  pub up-to : used ≡ true → r .low ≤ x → leb x (r .high) ≡ field used r x
+  up-to e h = rw (e, le-leb (r .low) x h) refl
+
+  pub unused : used ≡ false → eqb x 0 ≡ field used r x
+  unused e = rw e refl
+
+-- beyond the table
+pub no-row : (kind : ℕ) → giveUpStep < kind → 0 ≡ rowOf kind
+unfolding rowOf
+no-row kind h = sym (List·getD-eq-default fieldTable 0 {n = kind} h)
+
+-- who, by the two tests of a row
+module _ (row : ℕ) (a : Bool) (p : a ≡ inRow row CLIENT) where
+  pub used-first : a ≡ true → true ≡ whoUsed row
+  used-first e = rw (sym p ∙ e) refl
+
+  pub used-second : (b : Bool) → a ≡ false → b ≡ inRow row SERVER → b ≡ whoUsed row
+  used-second b e q = rw (sym p ∙ e) q
+
+  pub range-first : a ≡ true → clientRange ≡ whoRange row
+  range-first e = rw (sym p ∙ e) refl
+
+  pub range-second : a ≡ false → serverRange ≡ whoRange row
+  range-second e = rw (sym p ∙ e) refl
+
+-- a kind before the first or after the last
+pub unknown-low : (st : Step) → st .kind < writeStep → false ≡ fieldsFit st
+unfolding fieldsFit
+unknown-low st h = rw (lt-leb writeStep (st .kind) h) refl
+
+pub unknown-high : (st : Step) → writeStep ≤ st .kind → giveUpStep < st .kind → false ≡ fieldsFit st
+unfolding fieldsFit
+unknown-high st l h = rw (le-leb writeStep (st .kind) l, lt-leb (st .kind) giveUpStep h) refl
+
+three : (a b c d : Bool) → ((a && (b && c)) && d) ≡ (a && (b && (c && d)))
+three true true c d = refl
+three true false c d = refl
+three false b c d = refl
+
+-- the fields of a known kind, by its row
+pub known-row : (st : Step) (row : ℕ) (p n b : Bool) → writeStep ≤ st .kind → st .kind ≤ giveUpStep → row ≡ rowOf (st .kind)
+    → p ≡ placesFit row st → n ≡ numbersFit row st → b ≡ (p && n) → b ≡ fieldsFit st
+unfolding fieldsFit
+known-row st row p n b l h i q s e =
+    e
+    ∙ rw (q, s, i, le-leb writeStep (st .kind) l, le-leb (st .kind) giveUpStep h)
+    (three (field (whoUsed (rowOf (st .kind))) (whoRange (rowOf (st .kind))) (st .who)) (field (inRow (rowOf (st .kind)) VIEW) viewRange (st .view .0)) _ _)
