@@ -84,6 +84,11 @@ uint64_t zw_replay(uint8_t *image, size_t n, const uint8_t *journal, size_t m);
  * has fewer steps. */
 uint64_t zw_resume(uint8_t *image, size_t n, const uint8_t *journal, size_t m, uint64_t steps);
 
+/* Writes the load of a seed and a number of steps: a journal of n bytes, n being
+ * ZW_STEP * steps. The two inputs fix every byte, and each step passes check 3.
+ * Result 0. Refusal 1, n is another length. */
+uint64_t zw_load(uint8_t *journal, size_t n, uint32_t seed, uint32_t steps);
+
 /* The rules of one machine, on its record alone, as a real machine runs them.
  * docs/LAYOUT.md has what is asked of it. Refusals 1, 3, then as its step, but
  * 10: only the world knows how many message numbers are used. */

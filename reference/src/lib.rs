@@ -11,6 +11,7 @@ pub mod client;
 pub mod codec;
 pub mod entry;
 pub mod layout;
+pub mod load;
 pub mod operations;
 pub mod premise;
 pub mod program;

@@ -52,7 +52,7 @@ pub const FIELDS: [Field; 6] = [
 
 /// The least and the largest number a used field may hold; `None` where the
 /// kind does not use the field, which is then zero.
-type Range = Option<(u32, u32)>;
+pub type Range = Option<(u32, u32)>;
 
 const UNUSED: Range = None;
 const CLIENT: Range = Some((1, LAST_CLIENT as u32));
@@ -74,6 +74,11 @@ const USED: [[Range; 6]; step_kind::LAST as usize] = [
     [UNUSED, UNUSED, ANY, UNUSED, UNUSED, ANY],    // new view
     [CLIENT, UNUSED, UNUSED, UNUSED, UNUSED, UNUSED], // give up
 ];
+
+/// The ranges of a step of this kind, if there is such a kind.
+pub fn ranges(kind: u8) -> Option<&'static [Range; FIELDS.len()]> {
+    USED.get(usize::from(kind).checked_sub(1)?)
+}
 
 impl Step {
     pub fn load(bytes: &[u8; STEP_SIZE]) -> Step {
@@ -109,13 +114,22 @@ impl Step {
         }
     }
 
+    /// Puts the number, which fits it, into the field.
+    pub fn set(&mut self, field: Field, number: u32) {
+        match field {
+            Field::Who => self.who = number as u8,
+            Field::View => self.view = number as u8,
+            Field::F => self.f = number as u8,
+            Field::Message => self.message = number as u16,
+            Field::Source => self.source = number as u16,
+            Field::Value => self.value = number,
+        }
+    }
+
     /// Check 3: the kind is known, the fields it uses are in range and the
     /// others are zero. It looks at the step alone.
     pub fn check(&self) -> Result<(), Reason> {
-        let ranges = match self.kind {
-            1..=step_kind::LAST => &USED[usize::from(self.kind) - 1],
-            _ => return Err(Reason::UnknownKind),
-        };
+        let ranges = ranges(self.kind).ok_or(Reason::UnknownKind)?;
         for (field, range) in FIELDS.into_iter().zip(ranges) {
             let number = self.field(field);
             match *range {

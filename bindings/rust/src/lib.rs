@@ -94,6 +94,12 @@ pub fn resume(image: &mut [u8], journal: &[u8], steps: u64) -> Replayed {
     replayed(raw::resume(image, journal, steps))
 }
 
+/// Writes the load of a seed and a number of steps, 12 bytes a step. Refused with
+/// 1 if the journal has another length.
+pub fn load(journal: &mut [u8], seed: u32, steps: u32) -> Result<(), Refusal> {
+    result(raw::load(journal, seed, steps)).map(|_| ())
+}
+
 /// A server's rule on its record. True if a message that reached it (rule 3) is
 /// answered, with the view and entry of its record. A false answer (rule 6) that
 /// is not refused is false: the record stays, and shows nothing of it.

@@ -17,6 +17,7 @@ mod c {
             m: usize,
             steps: u64,
         ) -> u64;
+        pub fn zw_load(journal: *mut u8, n: usize, seed: u32, steps: u32) -> u64;
         pub fn zw_server(server: *mut u8, n: usize, call: *const u8, m: usize) -> u64;
         pub fn zw_client(client: *mut u8, n: usize, call: *const u8, m: usize) -> u64;
         pub fn zw_administrator(record: *mut u8, n: usize, call: *const u8, m: usize) -> u64;
@@ -57,6 +58,11 @@ pub fn resume(image: &mut [u8], journal: &[u8], steps: u64) -> u64 {
     let (lent, read) = (image.as_mut_ptr(), journal.as_ptr());
     // SAFETY: both are pointer and length of slices, which do not overlap.
     unsafe { c::zw_resume(lent, image.len(), read, journal.len(), steps) }
+}
+
+pub fn load(journal: &mut [u8], seed: u32, steps: u32) -> u64 {
+    // SAFETY: the pointer and length are those of a slice lent for writing.
+    unsafe { c::zw_load(journal.as_mut_ptr(), journal.len(), seed, steps) }
 }
 
 pub fn server(server: &mut [u8], call: &[u8]) -> u64 {

@@ -5,6 +5,7 @@ ghost use Rattle.protocol.specs.Sizes.{quorumSize};
 ghost use Rattle.image.specs.Fresh.{freshOn};
 ghost use Rattle.image.specs.Premise.{premiseOn};
 ghost use Rattle.image.specs.Steps.{stepOn, leftBy, answered, replayOn, resumeOn};
+ghost use Rattle.loads.specs.Load.{loadOn};
 ghost use Rattle.exports.specs.Answers.{packed, flagged, packedReplay};
 ghost use Rattle.single.specs.Calls.{serverCall, replied, serverLeft, clientCall, completed, clientLeft, administratorCall, accepted, administratorLeft};
 use codec::records::write_administrator;
@@ -16,6 +17,7 @@ use image::premise::premise;
 use journal::Replayed;
 use journal::replay::replay;
 use journal::replay::resume;
+use loads::journal::load;
 use protocol::Called;
 use protocol::Closing;
 use protocol::Served;
@@ -100,6 +102,14 @@ pub extern "C" fn zw_resume(image: &mut [u8], journal: &[u8], steps: u64) -> u64
 {
     let done = resume(image, journal, steps as usize);
     packed(done)
+}
+
+// "From a seed (u32) and a number of steps, write a journal": refusal.
+#[no_mangle]
+pub extern "C" fn zw_load(journal: &mut [u8], seed: u32, steps: u32) -> u64
+    ensures { λ r. ⌜ (r ≡ loadOn (now (journal .entry)) seed steps .refusal) × (now (journal .exit) ≡ loadOn (now (journal .entry)) seed steps .journal) ⌝ }
+{
+    load(journal, seed, steps) as u64
 }
 
 // A server's rule on its record: refusal, 1 if it answers what reached it; 0 for a false answer.

@@ -30,6 +30,7 @@ pub fn run_all(comparison: &mut Comparison, steps: usize, journals: usize, seed:
     fresh_worlds(comparison, &mut draws, steps / 20);
     every_clause(comparison, &mut draws);
     whole_journals(comparison, &mut draws, journals);
+    loads(comparison, &mut draws);
     let before = comparison.steps;
     while comparison.steps - before < steps as u64 {
         // Images from runs, and images from nowhere.
@@ -92,6 +93,31 @@ fn fresh_worlds(comparison: &mut Comparison, draws: &mut Draws, count: usize) {
             _ => n.saturating_sub(1) / 3,
         };
         comparison.fresh(&vec![byte; length], members, f as u8);
+    }
+}
+
+/// A thousand steps of one seed, and shorter loads of 200 others; then what the
+/// first one does in a world, step by step.
+fn loads(comparison: &mut Comparison, draws: &mut Draws) {
+    let thousand = comparison.load(&vec![0xff; 1000 * STEP_SIZE], 1, 1000);
+    for number in 0..200 {
+        let seed = match number {
+            0 => 0,
+            1 => 1,
+            2 => u32::MAX,
+            _ => draws.word() as u32,
+        };
+        let steps = draws.below(60);
+        comparison.load(&vec![0xff; steps * STEP_SIZE], seed, steps as u32);
+        let length = draws.below(60 * STEP_SIZE);
+        comparison.load(&vec![0xff; length], seed, steps as u32);
+    }
+    for steps in [u32::MAX, u32::MAX / 12 + 1, 357_913_942, 1] {
+        comparison.load(&[0xff; 24], 7, steps);
+    }
+    let mut image = comparison.fresh(&[0; IMAGE_SIZE], 0b1111, 1);
+    for step in thousand.chunks(STEP_SIZE).take(400) {
+        image = comparison.step(&image, step);
     }
 }
 

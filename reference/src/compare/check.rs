@@ -4,6 +4,7 @@
 use crate::codec::decode;
 use crate::compare::counts::{Counts, Operation};
 use crate::compare::library::{pack, pack_result, Library};
+use crate::load::load;
 use crate::operations;
 use crate::quorum::quorum_size;
 use crate::readable::broken;
@@ -229,6 +230,22 @@ impl<'a> Comparison<'a> {
             library.resume(image, lent.content(), steps)
         });
         self.unwritten(&lent, &expected, &what);
+        after
+    }
+
+    /// A load over this buffer; the buffer after it.
+    pub fn load(&mut self, buffer: &[u8], seed: u32, steps: u32) -> Vec<u8> {
+        let mut after = buffer.to_vec();
+        let ours = load(&mut after, seed, steps);
+        match ours {
+            Ok(()) => self.counts.accept(Operation::Load),
+            Err(reason) => self.counts.refuse(Operation::Load, reason),
+        }
+        let what = format!("load({} bytes, {seed}, {steps})", buffer.len());
+        let answer = pack_result(ours.map(|()| 0));
+        self.compare_image(buffer, &after, answer, &what, |library, journal| {
+            library.load(journal, seed, steps)
+        });
         after
     }
 

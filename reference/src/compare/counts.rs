@@ -26,13 +26,14 @@ pub enum Operation {
     Premise,
     Replay,
     Resume,
+    Load,
     /// The rules of single machines.
     Server,
     Client,
     Administrator,
 }
 
-pub const OPERATIONS: [Operation; 17] = [
+pub const OPERATIONS: [Operation; 18] = [
     Operation::Fresh,
     Operation::Quorum,
     Operation::Write,
@@ -47,6 +48,7 @@ pub const OPERATIONS: [Operation; 17] = [
     Operation::Premise,
     Operation::Replay,
     Operation::Resume,
+    Operation::Load,
     Operation::Server,
     Operation::Client,
     Operation::Administrator,

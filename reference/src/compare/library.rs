@@ -1,6 +1,7 @@
 //! The calls that both sides answer, packed as the C interface packs
 //! them: the refusal, and 256 times the result beside it.
 
+use crate::load::load;
 use crate::operations;
 use crate::quorum::quorum_size;
 use crate::refusal::Reason;
@@ -20,6 +21,8 @@ pub trait Library {
     fn replay(&self, image: &mut [u8], journal: &[u8]) -> u64;
     /// The part of a journal after so many steps: as a replay of it.
     fn resume(&self, image: &mut [u8], journal: &[u8], steps: u64) -> u64;
+    /// The load of a seed: the refusal.
+    fn load(&self, journal: &mut [u8], seed: u32, steps: u32) -> u64;
     /// A server's rule on its record: the refusal, and 1 if it answers.
     fn server(&self, record: &mut [u8], asked: &[u8]) -> u64;
     /// A client's rule on its record: the refusal, and 1 if its operation is
@@ -70,6 +73,10 @@ impl Library for Reference {
     fn resume(&self, image: &mut [u8], journal: &[u8], steps: u64) -> u64 {
         let replayed = operations::resume(image, journal, steps);
         pack(replayed.refusal(), replayed.done as u64)
+    }
+
+    fn load(&self, journal: &mut [u8], seed: u32, steps: u32) -> u64 {
+        pack_result(load(journal, seed, steps).map(|()| 0))
     }
 
     fn server(&self, record: &mut [u8], asked: &[u8]) -> u64 {

@@ -18,6 +18,8 @@ struct Changed {
     only_if_accepted: bool,
     /// How many steps a resume leaves out.
     steps: fn(u64) -> u64,
+    /// The seed of a load.
+    seed: fn(u32) -> u32,
 }
 
 /// Nothing changed yet.
@@ -28,6 +30,7 @@ fn same() -> Changed {
         record: Box::new(|_| {}),
         only_if_accepted: true,
         steps: |steps| steps,
+        seed: |seed| seed,
     }
 }
 
@@ -71,6 +74,10 @@ impl Library for Changed {
     fn resume(&self, image: &mut [u8], journal: &[u8], steps: u64) -> u64 {
         let steps = (self.steps)(steps);
         Reference.resume(image, journal, steps)
+    }
+
+    fn load(&self, journal: &mut [u8], seed: u32, steps: u32) -> u64 {
+        Reference.load(journal, (self.seed)(seed), steps)
     }
 
     fn server(&self, record: &mut [u8], asked: &[u8]) -> u64 {
@@ -181,6 +188,14 @@ fn a_resume_from_elsewhere_fails() {
     ];
     for steps in others {
         assert!(!passes(&Changed { steps, ..same() }));
+    }
+}
+
+#[test]
+fn a_load_of_another_seed_fails() {
+    let others: [fn(u32) -> u32; 2] = [|seed| seed ^ 1, |seed| if seed == 0 { 2 } else { seed }];
+    for seed in others {
+        assert!(!passes(&Changed { seed, ..same() }));
     }
 }
 

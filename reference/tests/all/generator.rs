@@ -248,6 +248,7 @@ fn every_path() -> BTreeSet<(Operation, Reason)> {
         (Operation::Replay, Reason::JournalLength),
         (Operation::Replay, Reason::Unreadable),
         (Operation::Replay, Reason::UnknownKind),
+        (Operation::Load, Reason::JournalLength),
         (Operation::Resume, Reason::ImageLength),
         (Operation::Resume, Reason::JournalLength),
         (Operation::Resume, Reason::Unreadable),

@@ -139,14 +139,7 @@ fn steps_with_used_fields() -> [(Step, &'static [Field]); 8] {
 }
 
 fn with(mut step: Step, field: Field, value: u32) -> Step {
-    match field {
-        Field::Who => step.who = value as u8,
-        Field::View => step.view = value as u8,
-        Field::F => step.f = value as u8,
-        Field::Message => step.message = value as u16,
-        Field::Source => step.source = value as u16,
-        Field::Value => step.value = value,
-    }
+    step.set(field, value);
     step
 }
 
