@@ -89,6 +89,14 @@ uint64_t zw_resume(uint8_t *image, size_t n, const uint8_t *journal, size_t m, u
  * Result 0. Refusal 1, n is another length. */
 uint64_t zw_load(uint8_t *journal, size_t n, uint32_t seed, uint32_t steps);
 
+/* Judges a log of lines of 20 bytes: whether its operations have an order in
+ * which each read returns the last write before it, what ended before another
+ * began comes first, and stamps never fall. Done, `order` has the numbers of the
+ * lines in such an order, u16, zero after them; it is of 2 bytes a line. Result:
+ * how many they are. Refusals 1, lengths; 14, a malformed log (over 256 lines
+ * too); 13, no order exists. A refusal leaves `order` as it was. */
+uint64_t zw_judge(const uint8_t *log, size_t n, uint8_t *order, size_t m);
+
 /* The rules of one machine, on its record alone, as a real machine runs them.
  * docs/LAYOUT.md has what is asked of it. Refusals 1, 3, then as its step, but
  * 10: only the world knows how many message numbers are used. */

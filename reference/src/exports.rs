@@ -13,6 +13,7 @@ extern "C" {
     fn zw_replay(image: *mut u8, n: usize, journal: *const u8, m: usize) -> u64;
     fn zw_resume(image: *mut u8, n: usize, journal: *const u8, m: usize, steps: u64) -> u64;
     fn zw_load(journal: *mut u8, n: usize, seed: u32, steps: u32) -> u64;
+    fn zw_judge(log: *const u8, n: usize, order: *mut u8, m: usize) -> u64;
     fn zw_server(server: *mut u8, n: usize, call: *const u8, m: usize) -> u64;
     fn zw_client(client: *mut u8, n: usize, call: *const u8, m: usize) -> u64;
     fn zw_administrator(record: *mut u8, n: usize, call: *const u8, m: usize) -> u64;
@@ -62,6 +63,11 @@ impl Library for Exports {
     fn load(&self, journal: &mut [u8], seed: u32, steps: u32) -> u64 {
         // SAFETY: the pointer and length are those of a slice lent for writing.
         unsafe { zw_load(journal.as_mut_ptr(), journal.len(), seed, steps) }
+    }
+
+    fn judge(&self, log: &[u8], order: &mut [u8]) -> u64 {
+        // SAFETY: both are pointer and length of slices, and they do not overlap.
+        unsafe { zw_judge(log.as_ptr(), log.len(), order.as_mut_ptr(), order.len()) }
     }
 
     fn server(&self, record: &mut [u8], asked: &[u8]) -> u64 {

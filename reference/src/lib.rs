@@ -39,3 +39,4 @@ pub mod compare;
 #[cfg(feature = "library")]
 pub mod exports;
 pub mod history;
+pub mod judge;

@@ -16,6 +16,10 @@ pub enum Reason {
     JournalLength,
     /// 1: a machine's record, or what is asked of it, is not as long as it is.
     RecordLength,
+    /// 1: a log is not made of whole lines.
+    LogLength,
+    /// 1: an order's buffer has not the length of the log's.
+    OrderLength,
     /// 2: no world has this image.
     Unreadable,
     /// 3: no step has this kind.
@@ -88,6 +92,33 @@ pub enum Reason {
     OwnCountTooLarge,
     /// 12: the client has no operation to give up.
     ClientIdle,
+    /// 13: the log's operations have no order.
+    NoOrder,
+    /// 14: what is lent is no log.
+    Malformed(Flaw),
+}
+
+/// What makes a log malformed.
+#[derive(Clone, Copy, Debug, PartialEq, Eq, Hash, PartialOrd, Ord)]
+pub enum Flaw {
+    /// It has over 256 lines.
+    TooManyLines,
+    /// A begin number is 0.
+    Begin,
+    /// A kind is neither write nor read.
+    Kind,
+    /// A spare byte is not zero.
+    Spare,
+    /// A writer is over 16.
+    Writer,
+    /// An end is not after its begin.
+    EndNotAfter,
+    /// A begin or end number is used twice.
+    NumberTwice,
+    /// A write has count 0.
+    CountZero,
+    /// Two writes have one stamp.
+    StampTwice,
 }
 
 impl Reason {
@@ -95,7 +126,7 @@ impl Reason {
     pub fn number(self) -> u8 {
         use Reason::*;
         match self {
-            ImageLength | StepLength | JournalLength | RecordLength => 1,
+            ImageLength | StepLength | JournalLength | RecordLength | LogLength | OrderLength => 1,
             Unreadable => 2,
             UnknownKind | OutOfRange(_) | Unused(_) | RecordRange | CallRange => 3,
             ClientBusy | EndingAlready => 4,
@@ -109,6 +140,8 @@ impl Reason {
             NoNumber | NoNumberToClose(_) => 10,
             CountTooLarge | OwnCountTooLarge => 11,
             ClientIdle => 12,
+            NoOrder => 13,
+            Malformed(_) => 14,
         }
     }
 }

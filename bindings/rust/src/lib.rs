@@ -100,6 +100,13 @@ pub fn load(journal: &mut [u8], seed: u32, steps: u32) -> Result<(), Refusal> {
     result(raw::load(journal, seed, steps)).map(|_| ())
 }
 
+/// Judges a log of lines of 20 bytes. Gives the number of operations of an order;
+/// `order`, 2 bytes a line, then has their lines' numbers, zero after them.
+/// Refused with 13 if no order exists.
+pub fn judge(log: &[u8], order: &mut [u8]) -> Result<u64, Refusal> {
+    result(raw::judge(log, order))
+}
+
 /// A server's rule on its record. True if a message that reached it (rule 3) is
 /// answered, with the view and entry of its record. A false answer (rule 6) that
 /// is not refused is false: the record stays, and shows nothing of it.

@@ -18,6 +18,7 @@ mod c {
             steps: u64,
         ) -> u64;
         pub fn zw_load(journal: *mut u8, n: usize, seed: u32, steps: u32) -> u64;
+        pub fn zw_judge(log: *const u8, n: usize, order: *mut u8, m: usize) -> u64;
         pub fn zw_server(server: *mut u8, n: usize, call: *const u8, m: usize) -> u64;
         pub fn zw_client(client: *mut u8, n: usize, call: *const u8, m: usize) -> u64;
         pub fn zw_administrator(record: *mut u8, n: usize, call: *const u8, m: usize) -> u64;
@@ -63,6 +64,12 @@ pub fn resume(image: &mut [u8], journal: &[u8], steps: u64) -> u64 {
 pub fn load(journal: &mut [u8], seed: u32, steps: u32) -> u64 {
     // SAFETY: the pointer and length are those of a slice lent for writing.
     unsafe { c::zw_load(journal.as_mut_ptr(), journal.len(), seed, steps) }
+}
+
+pub fn judge(log: &[u8], order: &mut [u8]) -> u64 {
+    let (read, lent) = (log.as_ptr(), order.as_mut_ptr());
+    // SAFETY: both are pointer and length of slices, which do not overlap.
+    unsafe { c::zw_judge(read, log.len(), lent, order.len()) }
 }
 
 pub fn server(server: &mut [u8], call: &[u8]) -> u64 {

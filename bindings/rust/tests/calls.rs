@@ -1,7 +1,15 @@
 //! The load, the judge, the short journal and the choice among entries without a
 //! signature through the safe functions.
 
-use zemawulo::{load, Refusal, STEP};
+use zemawulo::{judge, load, Refusal, ENTRY, LOG_LINE, LOG_LINES, ORDER_LINE, STEP};
+
+fn entry(count: u32, writer: u8, value: u32) -> [u8; ENTRY] {
+    let mut bytes = [0; ENTRY];
+    bytes[..4].copy_from_slice(&count.to_le_bytes());
+    bytes[4] = writer;
+    bytes[8..].copy_from_slice(&value.to_le_bytes());
+    bytes
+}
 
 #[test]
 fn the_first_step_of_a_load() {
@@ -18,4 +26,31 @@ fn the_first_step_of_a_load() {
     assert_eq!(load(&mut two, 1, 1), Err(Refusal(1)));
     assert_eq!(two, before);
     assert_eq!(load(&mut [], 5, 0), Ok(()));
+}
+
+fn line(begin: u16, end: u16, kind: u8, entry: [u8; ENTRY]) -> Vec<u8> {
+    let (begin, end) = (begin.to_le_bytes(), end.to_le_bytes());
+    [&begin[..], &end, &[kind, 0, 0, 0], &entry].concat()
+}
+
+#[test]
+fn logs() {
+    assert_eq!(judge(&[], &mut []), Ok(0));
+    let read = line(3, 4, 2, entry(1, 1, 7));
+    let write = line(1, 2, 1, entry(1, 1, 7));
+    let log = [read, write].concat();
+    let mut order = [9; 2 * ORDER_LINE];
+    assert_eq!(judge(&log, &mut order), Ok(2));
+    assert_eq!(order, [2, 0, 1, 0]);
+    // The read ends before the write begins.
+    let early = [line(1, 2, 2, entry(1, 1, 7)), line(3, 4, 1, entry(1, 1, 7))].concat();
+    assert_eq!(judge(&early, &mut order), Err(Refusal(13)));
+    let twice = [line(1, 2, 1, entry(1, 1, 7)), line(2, 3, 1, entry(2, 1, 7))].concat();
+    assert_eq!(judge(&twice, &mut order), Err(Refusal(14)));
+    assert_eq!(judge(&log[1..], &mut order), Err(Refusal(1)));
+    assert_eq!(judge(&log[LOG_LINE..], &mut order), Err(Refusal(1)));
+    assert_eq!(order, [2, 0, 1, 0]);
+    let long = vec![0; (LOG_LINES + 1) * LOG_LINE];
+    let mut orders = vec![0; (LOG_LINES + 1) * ORDER_LINE];
+    assert_eq!(judge(&long, &mut orders), Err(Refusal(14)));
 }

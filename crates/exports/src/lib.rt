@@ -5,7 +5,9 @@ ghost use Rattle.protocol.specs.Sizes.{quorumSize};
 ghost use Rattle.image.specs.Fresh.{freshOn};
 ghost use Rattle.image.specs.Premise.{premiseOn};
 ghost use Rattle.image.specs.Steps.{stepOn, leftBy, answered, replayOn, resumeOn};
+ghost use lib.ListN.{length};
 ghost use Rattle.loads.specs.Load.{loadOn};
+ghost use Rattle.judging.specs.Verdict.{judged, listedIn, operationsIn};
 ghost use Rattle.exports.specs.Answers.{packed, flagged, packedReplay};
 ghost use Rattle.single.specs.Calls.{serverCall, replied, serverLeft, clientCall, completed, clientLeft, administratorCall, accepted, administratorLeft};
 use codec::records::write_administrator;
@@ -17,6 +19,8 @@ use image::premise::premise;
 use journal::Replayed;
 use journal::replay::replay;
 use journal::replay::resume;
+use judging::Judgement;
+use judging::judge::judge;
 use loads::journal::load;
 use protocol::Called;
 use protocol::Closing;
@@ -110,6 +114,18 @@ pub extern "C" fn zw_load(journal: &mut [u8], seed: u32, steps: u32) -> u64
     ensures { λ r. ⌜ (r ≡ loadOn (now (journal .entry)) seed steps .refusal) × (now (journal .exit) ≡ loadOn (now (journal .entry)) seed steps .journal) ⌝ }
 {
     load(journal, seed, steps) as u64
+}
+
+// "Tell whether an order exists": refusal, operations in the order.
+#[no_mangle]
+pub extern "C" fn zw_judge(log: &[u8], order: &mut [u8]) -> u64
+    ensures { λ r. ⌜ (r ≡ packed (operationsIn (judged (now (log .entry)) (length (now (order .entry)))))) × (now (order .exit) ≡ listedIn (now (order .entry)) (judged (now (log .entry)) (length (now (order .entry))))) ⌝ }
+{
+    let answer = judge(log, order);
+    match answer {
+        Judgement::JudgeRefused(x) => x as u64,
+        Judgement::InOrder(k) => 256 * (k as u64),
+    }
 }
 
 // A server's rule on its record: refusal, 1 if it answers what reached it; 0 for a false answer.

@@ -5,11 +5,14 @@ use crate::codec::image_of;
 use crate::compare::check::Comparison;
 use crate::generate::calls::{administrator_call, client_call, server_call, spoil_call};
 use crate::generate::journals::journal;
+use crate::generate::logs::{kept, log};
 use crate::generate::profile::{Profile, PROFILES};
 use crate::generate::specimen::specimen;
 use crate::generate::spoils::{change_byte, spoiled};
 use crate::generate::steps::{aimed_start, aimed_step, aimed_step_of, odd_step};
 use crate::generate::worlds::world;
+use crate::history::operations::run;
+use crate::judge::{bytes, log_of, LINES, LINE_SIZE, PLACE_SIZE};
 use crate::layout::{IMAGE_SIZE, STEP_SIZE};
 use crate::readable::Clause;
 use crate::record::{step_kind, Step};
@@ -31,6 +34,7 @@ pub fn run_all(comparison: &mut Comparison, steps: usize, journals: usize, seed:
     every_clause(comparison, &mut draws);
     whole_journals(comparison, &mut draws, journals);
     loads(comparison, &mut draws);
+    logs(comparison, &mut draws, steps / 4);
     let before = comparison.steps;
     while comparison.steps - before < steps as u64 {
         // Images from runs, and images from nowhere.
@@ -118,6 +122,30 @@ fn loads(comparison: &mut Comparison, draws: &mut Draws) {
     let mut image = comparison.fresh(&[0; IMAGE_SIZE], 0b1111, 1);
     for step in thousand.chunks(STEP_SIZE).take(400) {
         image = comparison.step(&image, step);
+    }
+}
+
+/// Small logs, large ones, those of runs, and too large ones; orders' buffers of
+/// other lengths.
+fn logs(comparison: &mut Comparison, draws: &mut Draws, count: usize) {
+    for number in 0..count {
+        let lines = match number % 50 {
+            0 => log(draws, LINES),
+            1 => kept(draws, LINES),
+            2 => {
+                let profile = *draws.pick(&PROFILES).expect("there are profiles");
+                log_of(&run::<Sound>(&journal::<Sound>(draws.word(), profile)).operations)
+            }
+            3 => kept(draws, LINES + 1),
+            _ => log(draws, 8),
+        };
+        let mut bytes = bytes(&lines);
+        comparison.judge(&bytes, lines.len() * PLACE_SIZE);
+        if draws.chance(5) {
+            comparison.judge(&bytes, draws.below(2 * lines.len() * PLACE_SIZE + 1));
+            bytes.truncate(draws.below(bytes.len() + 1));
+            comparison.judge(&bytes, bytes.len() / LINE_SIZE * PLACE_SIZE);
+        }
     }
 }
 

@@ -4,6 +4,7 @@
 use crate::codec::decode;
 use crate::compare::counts::{Counts, Operation};
 use crate::compare::library::{pack, pack_result, Library};
+use crate::judge::{is_judged, judge, lines, PLACE_SIZE};
 use crate::load::load;
 use crate::operations;
 use crate::quorum::quorum_size;
@@ -53,6 +54,7 @@ pub struct Comparison<'a> {
     pub replays: u64,
     /// Calls of single machines.
     pub singles: u64,
+    pub logs: u64,
     /// The first differences, in words.
     pub told: Vec<String>,
 }
@@ -68,6 +70,7 @@ impl<'a> Comparison<'a> {
             journals: 0,
             replays: 0,
             singles: 0,
+            logs: 0,
             told: Vec::new(),
         }
     }
@@ -249,6 +252,37 @@ impl<'a> Comparison<'a> {
         after
     }
 
+    /// A log, judged into an order's buffer of this length. Which order is
+    /// shown is free; it must be one.
+    pub fn judge(&mut self, log: &[u8], length: usize) {
+        self.logs += 1;
+        let ours = judge(log, &mut vec![0; length]);
+        match ours {
+            Ok(_) => self.counts.accept(Operation::Judge),
+            Err(reason) => self.counts.refuse(Operation::Judge, reason),
+        }
+        let answer = pack_result(ours.map(|count| count as u64));
+        let mut order = Lent::new(&vec![MARK; length]);
+        let mut lent = Lent::new(log);
+        let expected = lent.bytes.clone();
+        let theirs = self.library.judge(lent.content(), order.content());
+        let shown = match ours {
+            Ok(count) => shows_order(log, order.content(), count),
+            Err(_) => order.content().iter().all(|byte| *byte == MARK),
+        };
+        let what = format!("judge of {} bytes ({ours:?})", log.len());
+        let good = theirs == answer && shown && order.margins_whole();
+        self.score(good, || {
+            format!(
+                "{what}: {}, the reference {}; the buffer {}",
+                unpacked(theirs),
+                unpacked(answer),
+                if shown { "is right" } else { "is not" },
+            )
+        });
+        self.unwritten(&lent, &expected, &what);
+    }
+
     /// A server's rule on its record.
     pub fn server(&mut self, record: &[u8], asked: &[u8]) {
         self.single(
@@ -323,6 +357,17 @@ impl<'a> Comparison<'a> {
     pub fn same_end(&mut self, one: &[u8], other: &[u8], what: &str) {
         self.score(one == other, || format!("{what}: other bytes"));
     }
+}
+
+/// Whether the buffer shows an order of so many of the log's operations.
+fn shows_order(log: &[u8], buffer: &[u8], count: usize) -> bool {
+    let places: Vec<usize> = buffer
+        .chunks(PLACE_SIZE)
+        .map(|place| usize::from(u16::from_le_bytes([place[0], place[1]])))
+        .collect();
+    let (order, rest) = places.split_at(count);
+    let order: Option<Vec<usize>> = order.iter().map(|line| line.checked_sub(1)).collect();
+    rest.iter().all(|line| *line == 0) && order.is_some_and(|order| is_judged(&lines(log), &order))
 }
 
 fn unpacked(answer: u64) -> String {

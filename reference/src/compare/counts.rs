@@ -27,13 +27,14 @@ pub enum Operation {
     Replay,
     Resume,
     Load,
+    Judge,
     /// The rules of single machines.
     Server,
     Client,
     Administrator,
 }
 
-pub const OPERATIONS: [Operation; 18] = [
+pub const OPERATIONS: [Operation; 19] = [
     Operation::Fresh,
     Operation::Quorum,
     Operation::Write,
@@ -49,6 +50,7 @@ pub const OPERATIONS: [Operation; 18] = [
     Operation::Replay,
     Operation::Resume,
     Operation::Load,
+    Operation::Judge,
     Operation::Server,
     Operation::Client,
     Operation::Administrator,
@@ -72,7 +74,7 @@ impl Operation {
 }
 
 /// The last refusal's number.
-pub const LAST_REFUSAL: u8 = 12;
+pub const LAST_REFUSAL: u8 = 14;
 
 /// Counts of what was met.
 #[derive(Clone, Debug, Default)]

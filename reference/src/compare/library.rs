@@ -1,6 +1,7 @@
 //! The calls that both sides answer, packed as the C interface packs
 //! them: the refusal, and 256 times the result beside it.
 
+use crate::judge::judge;
 use crate::load::load;
 use crate::operations;
 use crate::quorum::quorum_size;
@@ -23,6 +24,8 @@ pub trait Library {
     fn resume(&self, image: &mut [u8], journal: &[u8], steps: u64) -> u64;
     /// The load of a seed: the refusal.
     fn load(&self, journal: &mut [u8], seed: u32, steps: u32) -> u64;
+    /// A log: the refusal, and the operations in the order that is shown.
+    fn judge(&self, log: &[u8], order: &mut [u8]) -> u64;
     /// A server's rule on its record: the refusal, and 1 if it answers.
     fn server(&self, record: &mut [u8], asked: &[u8]) -> u64;
     /// A client's rule on its record: the refusal, and 1 if its operation is
@@ -77,6 +80,10 @@ impl Library for Reference {
 
     fn load(&self, journal: &mut [u8], seed: u32, steps: u32) -> u64 {
         pack_result(load(journal, seed, steps).map(|()| 0))
+    }
+
+    fn judge(&self, log: &[u8], order: &mut [u8]) -> u64 {
+        pack_result(judge(log, order).map(|count| count as u64))
     }
 
     fn server(&self, record: &mut [u8], asked: &[u8]) -> u64 {

@@ -28,8 +28,12 @@ pub fn report(comparison: &Comparison) -> String {
     line(
         &mut text,
         &format!(
-            "{} single steps, {} journals ({} replays) and {} calls of single machines compared",
-            comparison.steps, comparison.journals, comparison.replays, comparison.singles
+            "{} single steps, {} journals ({} replays), {} calls of single machines and {} logs compared",
+            comparison.steps,
+            comparison.journals,
+            comparison.replays,
+            comparison.singles,
+            comparison.logs,
         ),
     );
     line(

@@ -3,6 +3,7 @@
 
 pub mod calls;
 pub mod journals;
+pub mod logs;
 pub mod moves;
 pub mod profile;
 pub mod specimen;

@@ -3,8 +3,10 @@
 
 use crate::generate::journals::journal;
 use crate::generate::profile::{Profile, GLIMPSE, RESTARTS, STILL, STORM, WRECK};
+use crate::history::operations::run;
 use crate::history::verdict::{examine, Verdict};
 use crate::journal::Journal;
+use crate::judge::{log_of, Line};
 use crate::record::Step;
 use crate::rules::{
     AddsUpViews, CountsAnswers, ForgetsLeftViews, ForgetsOwnCount, Rules, SkipsWriteBack,
@@ -18,6 +20,8 @@ pub struct Idea {
     pub by_hand: fn() -> Journal,
     pub examine: fn(&Journal) -> Verdict,
     pub profile: &'static Profile,
+    /// The log of a journal's operations.
+    pub log: fn(&Journal) -> Vec<Line>,
     draw: fn(u64, &Profile) -> Journal,
 }
 
@@ -63,8 +67,13 @@ const fn idea<R: Rules>(
         by_hand,
         examine: examine::<R>,
         profile,
+        log: logged::<R>,
         draw: journal::<R>,
     }
+}
+
+fn logged<R: Rules>(journal: &Journal) -> Vec<Line> {
+    log_of(&run::<R>(journal).operations)
 }
 
 impl Idea {

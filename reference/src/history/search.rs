@@ -47,17 +47,22 @@ fn may_follow(operations: &[Operation], number: usize, order: &Order) -> bool {
 /// The same question put to every order there is, with nothing left out. Only
 /// for a handful of operations.
 pub fn by_all_orders(operations: &[Operation]) -> bool {
-    let mut order: Order = (0..operations.len()).collect();
-    permute(operations, &mut order, 0)
+    any_order(operations.len(), &|order| fits(operations, order))
 }
 
-fn permute(operations: &[Operation], order: &mut Order, fixed: usize) -> bool {
+/// Whether any order of so many operations is wanted.
+pub fn any_order(count: usize, wanted: &impl Fn(&[usize]) -> bool) -> bool {
+    let mut order: Order = (0..count).collect();
+    permute(&mut order, 0, wanted)
+}
+
+fn permute(order: &mut Order, fixed: usize, wanted: &impl Fn(&[usize]) -> bool) -> bool {
     if fixed == order.len() {
-        return fits(operations, order);
+        return wanted(order);
     }
     for place in fixed..order.len() {
         order.swap(fixed, place);
-        let found = permute(operations, order, fixed + 1);
+        let found = permute(order, fixed + 1, wanted);
         order.swap(fixed, place);
         if found {
             return true;

@@ -5,6 +5,8 @@ use reference::compare::cases::run_all;
 use reference::compare::check::Comparison;
 use reference::compare::library::{Library, Reference};
 use reference::compare::report::{is_good, report};
+use reference::entry::Entry;
+use reference::judge::{bytes, Line};
 use reference::layout::{ADMINISTRATOR_SIZE, CLIENT_SIZE, IMAGE_SIZE, SERVER_SIZE};
 
 type ChangeImage = dyn Fn(&mut [u8]);
@@ -20,6 +22,8 @@ struct Changed {
     steps: fn(u64) -> u64,
     /// The seed of a load.
     seed: fn(u32) -> u32,
+    /// What becomes of an order that is shown, beside its answer.
+    order: fn(u64, &mut [u8]),
 }
 
 /// Nothing changed yet.
@@ -31,6 +35,7 @@ fn same() -> Changed {
         only_if_accepted: true,
         steps: |steps| steps,
         seed: |seed| seed,
+        order: |_, _| {},
     }
 }
 
@@ -78,6 +83,12 @@ impl Library for Changed {
 
     fn load(&self, journal: &mut [u8], seed: u32, steps: u32) -> u64 {
         Reference.load(journal, (self.seed)(seed), steps)
+    }
+
+    fn judge(&self, log: &[u8], order: &mut [u8]) -> u64 {
+        let answer = Reference.judge(log, order);
+        (self.order)(answer, order);
+        answer
     }
 
     fn server(&self, record: &mut [u8], asked: &[u8]) -> u64 {
@@ -197,6 +208,50 @@ fn a_load_of_another_seed_fails() {
     for seed in others {
         assert!(!passes(&Changed { seed, ..same() }));
     }
+}
+
+#[test]
+fn another_order_fails_unless_it_is_one() {
+    let others: [fn(u64, &mut [u8]); 4] = [
+        // The last operation first, the last one again, no zero after, and a
+        // byte beside a refusal.
+        |answer, order| {
+            if answer % 256 == 0 {
+                order.rotate_right(order.len().min(2));
+            }
+        },
+        |answer, order| {
+            if answer >= 512 {
+                order[0] = order[2];
+            }
+        },
+        |answer, order| {
+            let count = (answer / 256) as usize;
+            if 2 * count < order.len() {
+                order[2 * count] = 1;
+            }
+        },
+        |answer, order| {
+            if answer % 256 != 0 && !order.is_empty() {
+                order[0] ^= 1;
+            }
+        },
+    ];
+    for order in others {
+        assert!(!passes(&Changed { order, ..same() }));
+    }
+    // Two reads that are open to either order may be shown in either.
+    let reads = [
+        Line::read(1, 3, Entry::EMPTY),
+        Line::read(2, 4, Entry::EMPTY),
+    ];
+    let swapped = Changed {
+        order: |_, order| order.copy_from_slice(&[2, 0, 1, 0]),
+        ..same()
+    };
+    let mut comparison = Comparison::new(&swapped);
+    comparison.judge(&bytes(&reads), 4);
+    assert_eq!((comparison.passed, comparison.failed), (1, 0));
 }
 
 #[test]

@@ -16,7 +16,7 @@ use reference::operations;
 use reference::premise::premise;
 use reference::readable::{readable, Clause};
 use reference::record::{Field, FIELDS};
-use reference::refusal::Reason;
+use reference::refusal::{Flaw, Reason};
 use reference::rules::Sound;
 use reference::step::{Close, Deed};
 use reference::world::message_kind;
@@ -232,6 +232,27 @@ fn single_paths() -> Vec<(Operation, Reason)> {
         .collect()
 }
 
+/// The refusals of a log.
+fn log_paths() -> Vec<(Operation, Reason)> {
+    use Flaw::*;
+    let flaws = [
+        TooManyLines,
+        Begin,
+        Kind,
+        Spare,
+        Writer,
+        EndNotAfter,
+        NumberTwice,
+        CountZero,
+        StampTwice,
+    ];
+    [Reason::LogLength, Reason::OrderLength, Reason::NoOrder]
+        .into_iter()
+        .chain(flaws.map(Reason::Malformed))
+        .map(|reason| (Operation::Judge, reason))
+        .collect()
+}
+
 /// Every path to a refusal that exists.
 fn every_path() -> BTreeSet<(Operation, Reason)> {
     let mut paths = BTreeSet::from([
@@ -255,6 +276,7 @@ fn every_path() -> BTreeSet<(Operation, Reason)> {
         (Operation::Resume, Reason::UnknownKind),
     ]);
     paths.extend(single_paths());
+    paths.extend(log_paths());
     let steps = [
         Operation::Write,
         Operation::Read,

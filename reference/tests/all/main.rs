@@ -6,6 +6,7 @@ mod generator;
 mod giving_up;
 mod history;
 mod ideas;
+mod judge;
 mod load;
 mod program;
 mod quorum;

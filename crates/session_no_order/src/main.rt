@@ -1,0 +1,4 @@
+// The program: standard input to lines.
+fn main() {
+    judge_run::run();
+}
