@@ -97,6 +97,15 @@ uint64_t zw_load(uint8_t *journal, size_t n, uint32_t seed, uint32_t steps);
  * too); 13, no order exists. A refusal leaves `order` as it was. */
 uint64_t zw_judge(const uint8_t *log, size_t n, uint8_t *order, size_t m);
 
+/* The short journal behind a refusal, from the fresh world of these members
+ * and f: its replay stops with the same refusal number, and no longer does when
+ * any single step is dropped. `shorter` has as many bytes as the journal (k = m),
+ * at most 512 steps; it gets the short journal, zero after it. Result: the
+ * number of its steps. When done, and after 15, the image holds the fresh world;
+ * beside any other refusal no lent byte is changed. Refusals 1, 8, 15. */
+uint64_t zw_shorten(uint8_t *image, size_t n, uint32_t members, uint8_t f,
+                    const uint8_t *journal, size_t m, uint8_t *shorter, size_t k);
+
 /* The rules of one machine, on its record alone, as a real machine runs them.
  * docs/LAYOUT.md has what is asked of it. Refusals 1, 3, then as its step, but
  * 10: only the world knows how many message numbers are used. */

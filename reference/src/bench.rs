@@ -6,9 +6,13 @@ use std::time::{Duration, Instant};
 use crate::compare::library::{Library, Reference};
 use crate::generate::journals::journal;
 use crate::generate::profile::{Profile, FULL, WIDE};
+use crate::generate::stops::{stopped, STOPS};
+use crate::journal::Journal;
 use crate::layout::{IMAGE_SIZE, LAST_MESSAGE, STEP_SIZE};
 use crate::operations::{fresh, replay};
 use crate::rules::Sound;
+use crate::shorten::STEPS;
+use crate::xorshift::Draws;
 
 /// How often each row is measured on each side; odd, so that a median is one of
 /// the measurements.
@@ -70,6 +74,7 @@ fn full_journal(seed: u64, profile: &Profile) -> Option<Full> {
 pub fn rows(library: &dyn Library) -> Vec<Row> {
     let full = full_journals(&FULL, 8);
     let wide = full_journals(&WIDE, 8);
+    let worst = worst_to_shorten(200);
     vec![
         row(library, "replay of full journals", "step", |side| {
             replays(side, &full)
@@ -99,7 +104,44 @@ pub fn rows(library: &dyn Library) -> Vec<Row> {
             "call",
             |side| premises_of_fresh(side, &full),
         ),
+        row(
+            library,
+            "short journal of 512 steps (worst of 200)",
+            "call",
+            |side| shortenings(side, &worst),
+        ),
     ]
+}
+
+/// The journal that takes the reference longest to shorten, among so many of
+/// the largest length.
+fn worst_to_shorten(count: usize) -> Journal {
+    let mut draws = Draws::new(6);
+    let timed = (0..count).map(|number| {
+        let journal = stopped(&mut draws, STOPS[number % STOPS.len()], STEPS);
+        (shortenings(&Reference, &journal).0, journal)
+    });
+    timed
+        .max_by_key(|(time, _)| *time)
+        .expect("there are some")
+        .1
+}
+
+fn shortenings(side: &dyn Library, journal: &Journal) -> Spent {
+    let bytes = journal.bytes();
+    let mut image = vec![0; IMAGE_SIZE];
+    let mut buffer = vec![0; bytes.len()];
+    let begin = Instant::now();
+    let answer = side.shorten(
+        black_box(&mut image),
+        journal.members,
+        journal.f,
+        black_box(&bytes),
+        &mut buffer,
+    );
+    let spent = begin.elapsed();
+    assert_eq!(answer % 256, 0, "the journal stops");
+    (spent, 1)
 }
 
 /// Time spent, and on how many units.

@@ -14,6 +14,16 @@ extern "C" {
     fn zw_resume(image: *mut u8, n: usize, journal: *const u8, m: usize, steps: u64) -> u64;
     fn zw_load(journal: *mut u8, n: usize, seed: u32, steps: u32) -> u64;
     fn zw_judge(log: *const u8, n: usize, order: *mut u8, m: usize) -> u64;
+    fn zw_shorten(
+        image: *mut u8,
+        n: usize,
+        members: u32,
+        f: u8,
+        journal: *const u8,
+        m: usize,
+        shorter: *mut u8,
+        k: usize,
+    ) -> u64;
     fn zw_server(server: *mut u8, n: usize, call: *const u8, m: usize) -> u64;
     fn zw_client(client: *mut u8, n: usize, call: *const u8, m: usize) -> u64;
     fn zw_administrator(record: *mut u8, n: usize, call: *const u8, m: usize) -> u64;
@@ -68,6 +78,29 @@ impl Library for Exports {
     fn judge(&self, log: &[u8], order: &mut [u8]) -> u64 {
         // SAFETY: both are pointer and length of slices, and they do not overlap.
         unsafe { zw_judge(log.as_ptr(), log.len(), order.as_mut_ptr(), order.len()) }
+    }
+
+    fn shorten(
+        &self,
+        image: &mut [u8],
+        members: u32,
+        f: u8,
+        journal: &[u8],
+        shorter: &mut [u8],
+    ) -> u64 {
+        // SAFETY: all are pointer and length of slices, and they do not overlap.
+        unsafe {
+            zw_shorten(
+                image.as_mut_ptr(),
+                image.len(),
+                members,
+                f,
+                journal.as_ptr(),
+                journal.len(),
+                shorter.as_mut_ptr(),
+                shorter.len(),
+            )
+        }
     }
 
     fn server(&self, record: &mut [u8], asked: &[u8]) -> u64 {

@@ -21,6 +21,7 @@ pub mod record;
 pub mod refusal;
 pub mod rules;
 pub mod server;
+pub mod shorten;
 pub mod single;
 pub mod step;
 pub mod take;

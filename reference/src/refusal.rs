@@ -20,6 +20,10 @@ pub enum Reason {
     LogLength,
     /// 1: an order's buffer has not the length of the log's.
     OrderLength,
+    /// 1: a journal to be shortened has over 512 steps.
+    TooManySteps,
+    /// 1: the short journal's buffer is not as long as the journal.
+    ShorterLength,
     /// 2: no world has this image.
     Unreadable,
     /// 3: no step has this kind.
@@ -96,6 +100,8 @@ pub enum Reason {
     NoOrder,
     /// 14: what is lent is no log.
     Malformed(Flaw),
+    /// 15: the journal to be shortened stops on no refusal.
+    NoStop,
 }
 
 /// What makes a log malformed.
@@ -126,7 +132,8 @@ impl Reason {
     pub fn number(self) -> u8 {
         use Reason::*;
         match self {
-            ImageLength | StepLength | JournalLength | RecordLength | LogLength | OrderLength => 1,
+            ImageLength | StepLength | JournalLength | RecordLength | LogLength | OrderLength
+            | TooManySteps | ShorterLength => 1,
             Unreadable => 2,
             UnknownKind | OutOfRange(_) | Unused(_) | RecordRange | CallRange => 3,
             ClientBusy | EndingAlready => 4,
@@ -142,6 +149,7 @@ impl Reason {
             ClientIdle => 12,
             NoOrder => 13,
             Malformed(_) => 14,
+            NoStop => 15,
         }
     }
 }

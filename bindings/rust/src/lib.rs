@@ -107,6 +107,20 @@ pub fn judge(log: &[u8], order: &mut [u8]) -> Result<u64, Refusal> {
     result(raw::judge(log, order))
 }
 
+/// The short journal behind the refusal that stops the replay of a journal from
+/// the fresh world of these members and f. Gives the number of its steps;
+/// `shorter`, as long as the journal, begins with them and is zero after them.
+/// When done, and after 15, the image holds the fresh world.
+pub fn shorten(
+    image: &mut [u8],
+    members: u32,
+    f: u8,
+    journal: &[u8],
+    shorter: &mut [u8],
+) -> Result<u64, Refusal> {
+    result(raw::shorten(image, members, f, journal, shorter))
+}
+
 /// A server's rule on its record. True if a message that reached it (rule 3) is
 /// answered, with the view and entry of its record. A false answer (rule 6) that
 /// is not refused is false: the record stays, and shows nothing of it.

@@ -19,6 +19,16 @@ mod c {
         ) -> u64;
         pub fn zw_load(journal: *mut u8, n: usize, seed: u32, steps: u32) -> u64;
         pub fn zw_judge(log: *const u8, n: usize, order: *mut u8, m: usize) -> u64;
+        pub fn zw_shorten(
+            image: *mut u8,
+            n: usize,
+            members: u32,
+            f: u8,
+            journal: *const u8,
+            m: usize,
+            shorter: *mut u8,
+            k: usize,
+        ) -> u64;
         pub fn zw_server(server: *mut u8, n: usize, call: *const u8, m: usize) -> u64;
         pub fn zw_client(client: *mut u8, n: usize, call: *const u8, m: usize) -> u64;
         pub fn zw_administrator(record: *mut u8, n: usize, call: *const u8, m: usize) -> u64;
@@ -70,6 +80,14 @@ pub fn judge(log: &[u8], order: &mut [u8]) -> u64 {
     let (read, lent) = (log.as_ptr(), order.as_mut_ptr());
     // SAFETY: both are pointer and length of slices, which do not overlap.
     unsafe { c::zw_judge(read, log.len(), lent, order.len()) }
+}
+
+pub fn shorten(image: &mut [u8], members: u32, f: u8, journal: &[u8], shorter: &mut [u8]) -> u64 {
+    let (lent, n) = (image.as_mut_ptr(), image.len());
+    let (read, m) = (journal.as_ptr(), journal.len());
+    let (written, k) = (shorter.as_mut_ptr(), shorter.len());
+    // SAFETY: all three are pointer and length of slices, which do not overlap.
+    unsafe { c::zw_shorten(lent, n, members, f, read, m, written, k) }
 }
 
 pub fn server(server: &mut [u8], call: &[u8]) -> u64 {

@@ -1,7 +1,10 @@
 //! The load, the judge, the short journal and the choice among entries without a
 //! signature through the safe functions.
 
-use zemawulo::{judge, load, Refusal, ENTRY, LOG_LINE, LOG_LINES, ORDER_LINE, STEP};
+use zemawulo::{
+    fresh, judge, load, replay, shorten, Refusal, ENTRY, IMAGE, LOG_LINE, LOG_LINES, ORDER_LINE,
+    SHORTEN_STEPS, STEP,
+};
 
 fn entry(count: u32, writer: u8, value: u32) -> [u8; ENTRY] {
     let mut bytes = [0; ENTRY];
@@ -53,4 +56,48 @@ fn logs() {
     let long = vec![0; (LOG_LINES + 1) * LOG_LINE];
     let mut orders = vec![0; (LOG_LINES + 1) * ORDER_LINE];
     assert_eq!(judge(&long, &mut orders), Err(Refusal(14)));
+}
+
+#[test]
+fn short_journals() {
+    let mut image = vec![7; IMAGE];
+    let give_up = [8, 1, 0, 0, 0, 0, 0, 0, 0, 0, 0, 0];
+    let read = [2, 2, 0, 0, 0, 0, 0, 0, 0, 0, 0, 0];
+    let journal = [read, give_up].concat();
+    let mut shorter = [7; 2 * STEP];
+    assert_eq!(shorten(&mut image, 1, 0, &journal, &mut shorter), Ok(1));
+    assert_eq!(shorter[..STEP], give_up);
+    assert_eq!(shorter[STEP..], [0; STEP]);
+    let mut first = vec![0; IMAGE];
+    fresh(&mut first, 1, 0).unwrap();
+    assert_eq!(image, first);
+    let stopped = replay(&mut image, &shorter[..STEP]);
+    assert_eq!((stopped.steps, stopped.stop), (0, Some(Refusal(12))));
+
+    let before = shorter;
+    image.fill(7);
+    let once = [read, [0; 12]].concat();
+    assert_eq!(
+        shorten(&mut image, 1, 0, &once[..STEP], &mut shorter),
+        Err(Refusal(1))
+    );
+    assert_eq!(
+        shorten(&mut image, 0, 0, &once, &mut shorter),
+        Err(Refusal(8))
+    );
+    assert!(image.iter().all(|&byte| byte == 7));
+    let mut room = [7; STEP];
+    assert_eq!(
+        shorten(&mut image, 1, 0, &read, &mut room),
+        Err(Refusal(15))
+    );
+    assert_eq!(room, [7; STEP]);
+    assert_eq!(image, first);
+    assert_eq!(shorter, before);
+    let long = vec![0; (SHORTEN_STEPS + 1) * STEP];
+    let mut longer = long.clone();
+    assert_eq!(
+        shorten(&mut image, 1, 0, &long, &mut longer),
+        Err(Refusal(1))
+    );
 }

@@ -8,6 +8,7 @@ ghost use Rattle.image.specs.Steps.{stepOn, leftBy, answered, replayOn, resumeO
 ghost use lib.ListN.{length};
 ghost use Rattle.loads.specs.Load.{loadOn};
 ghost use Rattle.judging.specs.Verdict.{judged, listedIn, operationsIn};
+ghost use Rattle.shorten.specs.Journals.{shortenOn};
 ghost use Rattle.exports.specs.Answers.{packed, flagged, packedReplay};
 ghost use Rattle.single.specs.Calls.{serverCall, replied, serverLeft, clientCall, completed, clientLeft, administratorCall, accepted, administratorLeft};
 use codec::records::write_administrator;
@@ -25,6 +26,8 @@ use loads::journal::load;
 use protocol::Called;
 use protocol::Closing;
 use protocol::Served;
+use shorten::Shortened;
+use shorten::shorten::shorten;
 use single::calls::administrator_call;
 use single::calls::client_call;
 use single::calls::server_call;
@@ -125,6 +128,24 @@ pub extern "C" fn zw_judge(log: &[u8], order: &mut [u8]) -> u64
     match answer {
         Judgement::JudgeRefused(x) => x as u64,
         Judgement::InOrder(k) => 256 * (k as u64),
+    }
+}
+
+// "The short journal behind a refusal": refusal, the number of its steps.
+#[no_mangle]
+pub extern "C" fn zw_shorten(
+    image: &mut [u8],
+    members: u32,
+    f: u8,
+    journal: &[u8],
+    shorter: &mut [u8],
+) -> u64
+    ensures { λ r. ⌜ (r ≡ packed (shortenOn (now (image .entry)) members f (now (journal .entry)) (now (shorter .entry)) .answer)) × (now (image .exit) ≡ shortenOn (now (image .entry)) members f (now (journal .entry)) (now (shorter .entry)) .image) × (now (shorter .exit) ≡ shortenOn (now (image .entry)) members f (now (journal .entry)) (now (shorter .entry)) .shorter) ⌝ }
+{
+    let answer = shorten(image, members, f, journal, shorter);
+    match answer {
+        Shortened::ShortenRefused(x) => x as u64,
+        Shortened::ShortenDone(k) => 256 * (k as u64),
     }
 }
 

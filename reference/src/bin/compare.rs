@@ -4,7 +4,7 @@
 
 use std::process::ExitCode;
 
-use reference::compare::cases::{run_all, JOURNALS, STEPS};
+use reference::compare::cases::{run_all, short_journals, JOURNALS, SHORTENED, STEPS};
 use reference::compare::check::Comparison;
 use reference::compare::report::{is_good, report};
 use reference::exports::Exports;
@@ -25,6 +25,7 @@ fn main() -> ExitCode {
     let journals = JOURNALS * steps / STEPS;
     let mut comparison = Comparison::new(&Exports);
     run_all(&mut comparison, steps, journals, seed);
+    short_journals(&mut comparison, SHORTENED * steps / STEPS, seed);
     print!("{}", report(&comparison));
     ExitCode::from(u8::from(!is_good(&comparison)))
 }

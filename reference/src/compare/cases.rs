@@ -10,19 +10,24 @@ use crate::generate::profile::{Profile, PROFILES};
 use crate::generate::specimen::specimen;
 use crate::generate::spoils::{change_byte, spoiled};
 use crate::generate::steps::{aimed_start, aimed_step, aimed_step_of, odd_step};
+use crate::generate::stops::{many_passes, stopped, STOPS};
 use crate::generate::worlds::world;
 use crate::history::operations::run;
+use crate::journal::Journal;
 use crate::judge::{bytes, log_of, LINES, LINE_SIZE, PLACE_SIZE};
 use crate::layout::{IMAGE_SIZE, STEP_SIZE};
 use crate::readable::Clause;
 use crate::record::{step_kind, Step};
 use crate::rules::Sound;
+use crate::shorten::STEPS as LONGEST;
 use crate::step::step;
 use crate::world::World;
 use crate::xorshift::Draws;
 
 /// Journals in a run of the least size.
 pub const JOURNALS: usize = 300;
+/// Long journals to be shortened in a run of the least size.
+pub const SHORTENED: usize = 500;
 /// Single steps in a run of the least size.
 pub const STEPS: usize = 20_000;
 
@@ -146,6 +151,43 @@ fn logs(comparison: &mut Comparison, draws: &mut Draws, count: usize) {
             bytes.truncate(draws.below(bytes.len() + 1));
             comparison.judge(&bytes, bytes.len() / LINE_SIZE * PLACE_SIZE);
         }
+    }
+}
+
+/// Long journals that stop with each refusal, one that takes many passes, those
+/// that stop on none, and every wrong length.
+pub fn short_journals(comparison: &mut Comparison, count: usize, seed: u64) {
+    let draws = &mut Draws::new(seed);
+    for number in 0..count {
+        let steps = draws.between(400, LONGEST);
+        let journal = stopped(draws, STOPS[number % STOPS.len()], steps);
+        shorten_one(comparison, draws, &journal);
+    }
+    shorten_one(comparison, draws, &many_passes(20));
+    for number in 0..60 {
+        let profile = PROFILES[number % PROFILES.len()].with_odd(number % 4 == 0);
+        let mut journal = journal::<Sound>(draws.word(), &profile);
+        journal.steps.retain(|step| step.len() == STEP_SIZE);
+        shorten_one(comparison, draws, &journal);
+        let steps = draws.below(4);
+        journal.steps.truncate(steps);
+        shorten_one(comparison, draws, &journal);
+    }
+}
+
+fn shorten_one(comparison: &mut Comparison, draws: &mut Draws, journal: &Journal) {
+    let (members, f, bytes) = (journal.members, journal.f, journal.bytes());
+    let (image, buffer) = (vec![0xff; IMAGE_SIZE], vec![0xff; bytes.len()]);
+    comparison.shorten(&image, members, f, &bytes, &buffer);
+    match draws.below(20) {
+        0 => comparison.shorten(&image, members, f, &bytes, &buffer[buffer.len().min(1)..]),
+        1 => comparison.shorten(&image[1..], members, f, &bytes, &buffer),
+        2 => comparison.shorten(&image, 0, f, &bytes, &buffer),
+        3 => {
+            let length = draws.below(bytes.len() + 1);
+            comparison.shorten(&image, members, f, &bytes[..length], &buffer[..length]);
+        }
+        _ => {}
     }
 }
 

@@ -10,6 +10,7 @@ use crate::operations;
 use crate::quorum::quorum_size;
 use crate::readable::broken;
 use crate::refusal::Reason;
+use crate::shorten::shorten;
 use crate::single;
 
 /// Bytes before and after a lent buffer, which nobody may write.
@@ -55,6 +56,8 @@ pub struct Comparison<'a> {
     /// Calls of single machines.
     pub singles: u64,
     pub logs: u64,
+    /// Journals shortened.
+    pub shortened: u64,
     /// The first differences, in words.
     pub told: Vec<String>,
 }
@@ -71,6 +74,7 @@ impl<'a> Comparison<'a> {
             replays: 0,
             singles: 0,
             logs: 0,
+            shortened: 0,
             told: Vec::new(),
         }
     }
@@ -280,6 +284,29 @@ impl<'a> Comparison<'a> {
                 if shown { "is right" } else { "is not" },
             )
         });
+        self.unwritten(&lent, &expected, &what);
+    }
+
+    /// A journal shortened over these buffers.
+    pub fn shorten(&mut self, image: &[u8], members: u32, f: u8, journal: &[u8], shorter: &[u8]) {
+        self.shortened += 1;
+        let mut short = shorter.to_vec();
+        let mut after = image.to_vec();
+        let ours = shorten(&mut after, members, f, journal, &mut short);
+        match ours {
+            Ok(_) => self.counts.accept(Operation::Shorten),
+            Err(reason) => self.counts.refuse(Operation::Shorten, reason),
+        }
+        let what = format!("shorten of {} bytes ({ours:?})", journal.len());
+        let answer = pack_result(ours.map(|steps| steps as u64));
+        let mut lent = Lent::new(journal);
+        let expected = lent.bytes.clone();
+        let mut buffer = Lent::new(shorter);
+        self.compare_image(image, &after, answer, &what, |library, image| {
+            library.shorten(image, members, f, lent.content(), buffer.content())
+        });
+        let same = buffer.content() == short && buffer.margins_whole();
+        self.score(same, || format!("{what}: another short journal"));
         self.unwritten(&lent, &expected, &what);
     }
 

@@ -28,13 +28,14 @@ pub enum Operation {
     Resume,
     Load,
     Judge,
+    Shorten,
     /// The rules of single machines.
     Server,
     Client,
     Administrator,
 }
 
-pub const OPERATIONS: [Operation; 19] = [
+pub const OPERATIONS: [Operation; 20] = [
     Operation::Fresh,
     Operation::Quorum,
     Operation::Write,
@@ -51,6 +52,7 @@ pub const OPERATIONS: [Operation; 19] = [
     Operation::Resume,
     Operation::Load,
     Operation::Judge,
+    Operation::Shorten,
     Operation::Server,
     Operation::Client,
     Operation::Administrator,
@@ -74,7 +76,7 @@ impl Operation {
 }
 
 /// The last refusal's number.
-pub const LAST_REFUSAL: u8 = 14;
+pub const LAST_REFUSAL: u8 = 15;
 
 /// Counts of what was met.
 #[derive(Clone, Debug, Default)]

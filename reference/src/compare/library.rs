@@ -6,6 +6,7 @@ use crate::load::load;
 use crate::operations;
 use crate::quorum::quorum_size;
 use crate::refusal::Reason;
+use crate::shorten::shorten;
 use crate::single;
 
 /// Something that answers the calls of the C interface.
@@ -26,6 +27,15 @@ pub trait Library {
     fn load(&self, journal: &mut [u8], seed: u32, steps: u32) -> u64;
     /// A log: the refusal, and the operations in the order that is shown.
     fn judge(&self, log: &[u8], order: &mut [u8]) -> u64;
+    /// The short journal behind a refusal: the refusal, and its steps.
+    fn shorten(
+        &self,
+        image: &mut [u8],
+        members: u32,
+        f: u8,
+        journal: &[u8],
+        shorter: &mut [u8],
+    ) -> u64;
     /// A server's rule on its record: the refusal, and 1 if it answers.
     fn server(&self, record: &mut [u8], asked: &[u8]) -> u64;
     /// A client's rule on its record: the refusal, and 1 if its operation is
@@ -84,6 +94,17 @@ impl Library for Reference {
 
     fn judge(&self, log: &[u8], order: &mut [u8]) -> u64 {
         pack_result(judge(log, order).map(|count| count as u64))
+    }
+
+    fn shorten(
+        &self,
+        image: &mut [u8],
+        members: u32,
+        f: u8,
+        journal: &[u8],
+        shorter: &mut [u8],
+    ) -> u64 {
+        pack_result(shorten(image, members, f, journal, shorter).map(|steps| steps as u64))
     }
 
     fn server(&self, record: &mut [u8], asked: &[u8]) -> u64 {

@@ -9,4 +9,5 @@ pub mod profile;
 pub mod specimen;
 pub mod spoils;
 pub mod steps;
+pub mod stops;
 pub mod worlds;

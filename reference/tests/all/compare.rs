@@ -1,7 +1,7 @@
 //! The comparison finds what differs: a library with one thing changed fails.
 
 use reference::codec::{decode, encode};
-use reference::compare::cases::run_all;
+use reference::compare::cases::{run_all, short_journals};
 use reference::compare::check::Comparison;
 use reference::compare::library::{Library, Reference};
 use reference::compare::report::{is_good, report};
@@ -24,6 +24,8 @@ struct Changed {
     seed: fn(u32) -> u32,
     /// What becomes of an order that is shown, beside its answer.
     order: fn(u64, &mut [u8]),
+    /// What becomes of the image and of the short journal, beside the answer.
+    short: fn(u64, &mut [u8], &mut [u8]),
 }
 
 /// Nothing changed yet.
@@ -36,6 +38,7 @@ fn same() -> Changed {
         steps: |steps| steps,
         seed: |seed| seed,
         order: |_, _| {},
+        short: |_, _, _| {},
     }
 }
 
@@ -91,6 +94,19 @@ impl Library for Changed {
         answer
     }
 
+    fn shorten(
+        &self,
+        image: &mut [u8],
+        members: u32,
+        f: u8,
+        journal: &[u8],
+        shorter: &mut [u8],
+    ) -> u64 {
+        let answer = Reference.shorten(image, members, f, journal, shorter);
+        (self.short)(answer, image, shorter);
+        answer
+    }
+
     fn server(&self, record: &mut [u8], asked: &[u8]) -> u64 {
         self.machine(Reference.server(record, asked), record)
     }
@@ -104,10 +120,17 @@ impl Library for Changed {
     }
 }
 
+/// The same for shortened journals alone, which take long.
+fn shortens(library: &dyn Library) -> bool {
+    let mut comparison = Comparison::new(library);
+    short_journals(&mut comparison, 4, 1);
+    comparison.failed == 0
+}
+
 fn passes(library: &dyn Library) -> bool {
     let mut comparison = Comparison::new(library);
     run_all(&mut comparison, 2000, 24, 1);
-    comparison.failed == 0
+    comparison.failed == 0 && shortens(library)
 }
 
 #[test]
@@ -252,6 +275,38 @@ fn another_order_fails_unless_it_is_one() {
     let mut comparison = Comparison::new(&swapped);
     comparison.judge(&bytes(&reads), 4);
     assert_eq!((comparison.passed, comparison.failed), (1, 0));
+}
+
+#[test]
+fn another_short_journal_fails() {
+    let others: [fn(u64, &mut [u8], &mut [u8]); 4] = [
+        // A step changed, a byte after the steps, the image, and the buffer
+        // beside 15.
+        |answer, _, short| {
+            if answer % 256 == 0 {
+                short[0] ^= 1;
+            }
+        },
+        |answer, _, short| {
+            let end = (answer / 256) as usize * 12;
+            if answer % 256 == 0 && end < short.len() {
+                short[end] = 1;
+            }
+        },
+        |answer, image, _| {
+            if answer % 256 == 15 {
+                image.fill(0);
+            }
+        },
+        |answer, _, short| {
+            if answer % 256 == 15 {
+                short.fill(0);
+            }
+        },
+    ];
+    for short in others {
+        assert!(!shortens(&Changed { short, ..same() }));
+    }
 }
 
 #[test]

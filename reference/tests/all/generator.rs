@@ -3,7 +3,7 @@
 
 use std::collections::BTreeSet;
 
-use reference::compare::cases::{run_all, JOURNALS, STEPS};
+use reference::compare::cases::{run_all, short_journals, JOURNALS, STEPS};
 use reference::compare::check::Comparison;
 use reference::compare::counts::Operation;
 use reference::compare::library::Reference;
@@ -270,6 +270,12 @@ fn every_path() -> BTreeSet<(Operation, Reason)> {
         (Operation::Replay, Reason::Unreadable),
         (Operation::Replay, Reason::UnknownKind),
         (Operation::Load, Reason::JournalLength),
+        (Operation::Shorten, Reason::ImageLength),
+        (Operation::Shorten, Reason::JournalLength),
+        (Operation::Shorten, Reason::TooManySteps),
+        (Operation::Shorten, Reason::ShorterLength),
+        (Operation::Shorten, Reason::SizeRule),
+        (Operation::Shorten, Reason::NoStop),
         (Operation::Resume, Reason::ImageLength),
         (Operation::Resume, Reason::JournalLength),
         (Operation::Resume, Reason::Unreadable),
@@ -337,6 +343,7 @@ fn every_deed() -> BTreeSet<Deed> {
 fn the_cases_reach_every_refusal_by_every_path_and_every_close() {
     let mut comparison = Comparison::new(&Reference);
     run_all(&mut comparison, STEPS, JOURNALS, 1);
+    short_journals(&mut comparison, 40, 1);
     let counts = &comparison.counts;
     assert!(is_good(&comparison), "{:?}", comparison.told);
     assert!(counts.rare(LEAST).is_empty());

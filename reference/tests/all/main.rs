@@ -12,6 +12,7 @@ mod program;
 mod quorum;
 mod readable;
 mod refusals;
+mod shorten;
 mod single;
 mod traps;
 

@@ -1,0 +1,9 @@
+pub mod Passes
+pub mod Minimal
+pub mod Journals
+pub mod Examples
+pub mod Buffers
+pub mod Lent
+pub mod Trials
+pub mod Ends
+pub mod Promise
