@@ -106,6 +106,21 @@ uint64_t zw_judge(const uint8_t *log, size_t n, uint8_t *order, size_t m);
 uint64_t zw_shorten(uint8_t *image, size_t n, uint32_t members, uint8_t f,
                     const uint8_t *journal, size_t m, uint8_t *shorter, size_t k);
 
+/* Entries without a signature: chosen by how many of n servers show them, at
+ * most b of which lie. `answers` is a list of answers of 16 bytes (server u8, 3
+ * zero, entry 12), each server at most once, at least half of n+2b+1, rounded
+ * up. Of the entries that at least b+1 servers show, the largest stamp, for
+ * equal stamps the smaller value. Result 0; done, the entry is written to
+ * `entry`, 12 bytes. Refusals 1, 14, 16. */
+uint64_t zw_vouch(const uint8_t *answers, size_t m, uint32_t n, uint32_t b,
+                  uint8_t *entry, size_t k);
+
+/* The same for thresholds: `largest`, the largest permitted b, plus 1 in place
+ * of b+1, and an entry is dropped if that many servers show larger stamps. 14
+ * also if `largest` is below b or above (n-1)/4. */
+uint64_t zw_vouch_threshold(const uint8_t *answers, size_t m, uint32_t n, uint32_t b,
+                            uint32_t largest, uint8_t *entry, size_t k);
+
 /* The rules of one machine, on its record alone, as a real machine runs them.
  * docs/LAYOUT.md has what is asked of it. Refusals 1, 3, then as its step, but
  * 10: only the world knows how many message numbers are used. */

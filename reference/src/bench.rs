@@ -5,9 +5,11 @@ use std::time::{Duration, Instant};
 
 use crate::compare::library::{Library, Reference};
 use crate::generate::journals::journal;
+use crate::generate::logs::kept;
 use crate::generate::profile::{Profile, FULL, WIDE};
 use crate::generate::stops::{stopped, STOPS};
 use crate::journal::Journal;
+use crate::judge::{bytes, LINES, LINE_SIZE, PLACE_SIZE};
 use crate::layout::{IMAGE_SIZE, LAST_MESSAGE, STEP_SIZE};
 use crate::operations::{fresh, replay};
 use crate::rules::Sound;
@@ -75,6 +77,7 @@ pub fn rows(library: &dyn Library) -> Vec<Row> {
     let full = full_journals(&FULL, 8);
     let wide = full_journals(&WIDE, 8);
     let worst = worst_to_shorten(200);
+    let logs = ordered_logs(8);
     vec![
         row(library, "replay of full journals", "step", |side| {
             replays(side, &full)
@@ -104,6 +107,10 @@ pub fn rows(library: &dyn Library) -> Vec<Row> {
             "call",
             |side| premises_of_fresh(side, &full),
         ),
+        row(library, "load of a seed", "step", loads),
+        row(library, "log of 256 operations, in order", "call", |side| {
+            judgements(side, &logs)
+        }),
         row(
             library,
             "short journal of 512 steps (worst of 200)",
@@ -111,6 +118,39 @@ pub fn rows(library: &dyn Library) -> Vec<Row> {
             |side| shortenings(side, &worst),
         ),
     ]
+}
+
+fn loads(side: &dyn Library) -> Spent {
+    const STEPS: usize = 10_000;
+    let mut journal = vec![0; STEPS * STEP_SIZE];
+    let begin = Instant::now();
+    let answer = side.load(black_box(&mut journal), black_box(1), STEPS as u32);
+    let spent = begin.elapsed();
+    assert_eq!(answer, 0, "the buffer has the load's length");
+    (spent, STEPS)
+}
+
+/// The first logs of the largest size that are drawn and have an order.
+fn ordered_logs(count: usize) -> Vec<Vec<u8>> {
+    let mut draws = Draws::new(5);
+    let drawn = std::iter::repeat_with(|| bytes(&kept(&mut draws, LINES)));
+    drawn
+        .filter(|log| judged(&Reference, log) % 256 == 0)
+        .take(count)
+        .collect()
+}
+
+fn judged(side: &dyn Library, log: &[u8]) -> u64 {
+    let mut order = vec![0; log.len() / LINE_SIZE * PLACE_SIZE];
+    side.judge(black_box(log), black_box(&mut order))
+}
+
+fn judgements(side: &dyn Library, logs: &[Vec<u8>]) -> Spent {
+    let begin = Instant::now();
+    for log in logs {
+        assert_eq!(judged(side, log) % 256, 0, "the log has an order");
+    }
+    (begin.elapsed(), logs.len())
 }
 
 /// The journal that takes the reference longest to shorten, among so many of

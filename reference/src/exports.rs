@@ -24,6 +24,16 @@ extern "C" {
         shorter: *mut u8,
         k: usize,
     ) -> u64;
+    fn zw_vouch(answers: *const u8, m: usize, n: u32, b: u32, entry: *mut u8, k: usize) -> u64;
+    fn zw_vouch_threshold(
+        answers: *const u8,
+        m: usize,
+        n: u32,
+        b: u32,
+        largest: u32,
+        entry: *mut u8,
+        k: usize,
+    ) -> u64;
     fn zw_server(server: *mut u8, n: usize, call: *const u8, m: usize) -> u64;
     fn zw_client(client: *mut u8, n: usize, call: *const u8, m: usize) -> u64;
     fn zw_administrator(record: *mut u8, n: usize, call: *const u8, m: usize) -> u64;
@@ -101,6 +111,25 @@ impl Library for Exports {
                 shorter.len(),
             )
         }
+    }
+
+    fn vouch(&self, answers: &[u8], n: u32, b: u32, entry: &mut [u8]) -> u64 {
+        let (m, k) = (answers.len(), entry.len());
+        // SAFETY: both are pointer and length of slices, and they do not overlap.
+        unsafe { zw_vouch(answers.as_ptr(), m, n, b, entry.as_mut_ptr(), k) }
+    }
+
+    fn vouch_threshold(
+        &self,
+        answers: &[u8],
+        n: u32,
+        b: u32,
+        largest: u32,
+        entry: &mut [u8],
+    ) -> u64 {
+        let (m, k) = (answers.len(), entry.len());
+        // SAFETY: both are pointer and length of slices, and they do not overlap.
+        unsafe { zw_vouch_threshold(answers.as_ptr(), m, n, b, largest, entry.as_mut_ptr(), k) }
     }
 
     fn server(&self, record: &mut [u8], asked: &[u8]) -> u64 {

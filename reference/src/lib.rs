@@ -1,4 +1,5 @@
-//! The archive's rules, written a second time from documents 01 and 02, in plain Rust.
+//! The archive's rules, those of document 01 and of the requests 1, 2, 5, 6 and 10
+//! of document 02, written a second time in plain Rust.
 //!
 //! It shares neither code nor tables with the proved library, so that where
 //! both agree, on many worlds and many steps, the agreement says something.
@@ -25,6 +26,7 @@ pub mod shorten;
 pub mod single;
 pub mod step;
 pub mod take;
+pub mod vouch;
 pub mod world;
 
 // Worlds and journals to try them on.

@@ -24,6 +24,10 @@ pub enum Reason {
     TooManySteps,
     /// 1: the short journal's buffer is not as long as the journal.
     ShorterLength,
+    /// 1: a list is not made of whole answers.
+    AnswersLength,
+    /// 1: the buffer for an entry is not as long as one.
+    EntryLength,
     /// 2: no world has this image.
     Unreadable,
     /// 3: no step has this kind.
@@ -98,13 +102,15 @@ pub enum Reason {
     ClientIdle,
     /// 13: the log's operations have no order.
     NoOrder,
-    /// 14: what is lent is no log.
+    /// 14: what is lent is no log, or no list of answers.
     Malformed(Flaw),
     /// 15: the journal to be shortened stops on no refusal.
     NoStop,
+    /// 16: no entry qualifies.
+    NotVouched,
 }
 
-/// What makes a log malformed.
+/// What makes a log or a list of answers malformed.
 #[derive(Clone, Copy, Debug, PartialEq, Eq, Hash, PartialOrd, Ord)]
 pub enum Flaw {
     /// It has over 256 lines.
@@ -125,6 +131,16 @@ pub enum Flaw {
     CountZero,
     /// Two writes have one stamp.
     StampTwice,
+    /// There are over 32 servers, or fewer than 4b+1.
+    Servers,
+    /// The largest b is under b or over (n-1)/4.
+    LargestB,
+    /// A server is not in 1 to n.
+    ServerRange,
+    /// A server answers twice.
+    ServerTwice,
+    /// There are too few answers.
+    TooFewAnswers,
 }
 
 impl Reason {
@@ -133,7 +149,7 @@ impl Reason {
         use Reason::*;
         match self {
             ImageLength | StepLength | JournalLength | RecordLength | LogLength | OrderLength
-            | TooManySteps | ShorterLength => 1,
+            | TooManySteps | ShorterLength | AnswersLength | EntryLength => 1,
             Unreadable => 2,
             UnknownKind | OutOfRange(_) | Unused(_) | RecordRange | CallRange => 3,
             ClientBusy | EndingAlready => 4,
@@ -150,6 +166,7 @@ impl Reason {
             NoOrder => 13,
             Malformed(_) => 14,
             NoStop => 15,
+            NotVouched => 16,
         }
     }
 }

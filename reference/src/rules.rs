@@ -20,7 +20,7 @@ pub trait Rules {
     const FORGETS_LEFT_VIEWS: bool = false;
 }
 
-/// The rules of document 01, with the requests of document 02.
+/// The rules, with no wrong idea in their place.
 pub struct Sound;
 impl Rules for Sound {}
 

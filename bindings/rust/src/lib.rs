@@ -121,6 +121,24 @@ pub fn shorten(
     result(raw::shorten(image, members, f, journal, shorter))
 }
 
+/// Chooses among entries without a signature: of those that at least b+1 of the n
+/// servers show, the one with the largest stamp, written to `entry`.
+pub fn vouch(answers: &[u8], n: u32, b: u32, entry: &mut [u8]) -> Result<(), Refusal> {
+    result(raw::vouch(answers, n, b, entry)).map(|_| ())
+}
+
+/// The same for thresholds: the largest permitted b plus 1 in place of b+1, and
+/// an entry is dropped if that many servers show larger stamps.
+pub fn vouch_threshold(
+    answers: &[u8],
+    n: u32,
+    b: u32,
+    largest: u32,
+    entry: &mut [u8],
+) -> Result<(), Refusal> {
+    result(raw::vouch_threshold(answers, n, b, largest, entry)).map(|_| ())
+}
+
 /// A server's rule on its record. True if a message that reached it (rule 3) is
 /// answered, with the view and entry of its record. A false answer (rule 6) that
 /// is not refused is false: the record stays, and shows nothing of it.

@@ -29,6 +29,23 @@ mod c {
             shorter: *mut u8,
             k: usize,
         ) -> u64;
+        pub fn zw_vouch(
+            answers: *const u8,
+            m: usize,
+            n: u32,
+            b: u32,
+            entry: *mut u8,
+            k: usize,
+        ) -> u64;
+        pub fn zw_vouch_threshold(
+            answers: *const u8,
+            m: usize,
+            n: u32,
+            b: u32,
+            largest: u32,
+            entry: *mut u8,
+            k: usize,
+        ) -> u64;
         pub fn zw_server(server: *mut u8, n: usize, call: *const u8, m: usize) -> u64;
         pub fn zw_client(client: *mut u8, n: usize, call: *const u8, m: usize) -> u64;
         pub fn zw_administrator(record: *mut u8, n: usize, call: *const u8, m: usize) -> u64;
@@ -88,6 +105,18 @@ pub fn shorten(image: &mut [u8], members: u32, f: u8, journal: &[u8], shorter: &
     let (written, k) = (shorter.as_mut_ptr(), shorter.len());
     // SAFETY: all three are pointer and length of slices, which do not overlap.
     unsafe { c::zw_shorten(lent, n, members, f, read, m, written, k) }
+}
+
+pub fn vouch(answers: &[u8], n: u32, b: u32, entry: &mut [u8]) -> u64 {
+    let (read, lent) = (answers.as_ptr(), entry.as_mut_ptr());
+    // SAFETY: both are pointer and length of slices, which do not overlap.
+    unsafe { c::zw_vouch(read, answers.len(), n, b, lent, entry.len()) }
+}
+
+pub fn vouch_threshold(answers: &[u8], n: u32, b: u32, largest: u32, entry: &mut [u8]) -> u64 {
+    let (read, lent) = (answers.as_ptr(), entry.as_mut_ptr());
+    // SAFETY: both are pointer and length of slices, which do not overlap.
+    unsafe { c::zw_vouch_threshold(read, answers.len(), n, b, largest, lent, entry.len()) }
 }
 
 pub fn server(server: &mut [u8], call: &[u8]) -> u64 {

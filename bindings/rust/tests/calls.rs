@@ -2,8 +2,8 @@
 //! signature through the safe functions.
 
 use zemawulo::{
-    fresh, judge, load, replay, shorten, Refusal, ENTRY, IMAGE, LOG_LINE, LOG_LINES, ORDER_LINE,
-    SHORTEN_STEPS, STEP,
+    fresh, judge, load, replay, shorten, vouch, vouch_threshold, Refusal, ANSWER, ENTRY, IMAGE,
+    LOG_LINE, LOG_LINES, ORDER_LINE, SHORTEN_STEPS, STEP,
 };
 
 fn entry(count: u32, writer: u8, value: u32) -> [u8; ENTRY] {
@@ -100,4 +100,39 @@ fn short_journals() {
         shorten(&mut image, 1, 0, &long, &mut longer),
         Err(Refusal(1))
     );
+}
+
+fn answer(server: u8, entry: [u8; ENTRY]) -> Vec<u8> {
+    [&[server, 0, 0, 0][..], &entry].concat()
+}
+
+#[test]
+fn entries_without_a_signature() {
+    let mut room = [9; ENTRY];
+    let one = answer(1, entry(3, 2, 7));
+    assert_eq!(one.len(), ANSWER);
+    assert_eq!(vouch(&one, 1, 0, &mut room), Ok(()));
+    assert_eq!(room, entry(3, 2, 7));
+    // One of five servers lies, and four answers are enough.
+    let written = entry(3, 2, 7);
+    let mut list = answer(5, entry(9, 9, 9));
+    for server in 1..=3 {
+        list.extend(answer(server, written));
+    }
+    room.fill(0);
+    assert_eq!(vouch(&list, 5, 1, &mut room), Ok(()));
+    assert_eq!(room, written);
+    room.fill(0);
+    assert_eq!(vouch_threshold(&list, 5, 1, 1, &mut room), Ok(()));
+    assert_eq!(room, written);
+    assert_eq!(vouch(&list[ANSWER..], 5, 1, &mut room), Err(Refusal(14)));
+    assert_eq!(vouch(&list, 4, 1, &mut room), Err(Refusal(14)));
+    assert_eq!(vouch_threshold(&list, 5, 1, 0, &mut room), Err(Refusal(14)));
+    assert_eq!(vouch(&list[1..], 5, 1, &mut room), Err(Refusal(1)));
+    assert_eq!(vouch(&list, 5, 1, &mut room[1..]), Err(Refusal(1)));
+    let apart: Vec<u8> = (1..=4)
+        .flat_map(|s| answer(s, entry(s.into(), s, 0)))
+        .collect();
+    assert_eq!(vouch(&apart, 5, 1, &mut room), Err(Refusal(16)));
+    assert_eq!(room, written);
 }

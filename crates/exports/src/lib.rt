@@ -9,6 +9,7 @@ ghost use lib.ListN.{length};
 ghost use Rattle.loads.specs.Load.{loadOn};
 ghost use Rattle.judging.specs.Verdict.{judged, listedIn, operationsIn};
 ghost use Rattle.shorten.specs.Journals.{shortenOn};
+ghost use Rattle.vouch.specs.Checks.{vouchOn, thresholdOn, Leaves};
 ghost use Rattle.exports.specs.Answers.{packed, flagged, packedReplay};
 ghost use Rattle.single.specs.Calls.{serverCall, replied, serverLeft, clientCall, completed, clientLeft, administratorCall, accepted, administratorLeft};
 use codec::records::write_administrator;
@@ -33,6 +34,8 @@ use single::calls::client_call;
 use single::calls::server_call;
 use values::sizes::QuorumSize;
 use values::sizes::quorum_size;
+use vouch::call::vouch;
+use vouch::call::vouch_threshold;
 use world::Stepped;
 use world::step::step;
 
@@ -147,6 +150,28 @@ pub extern "C" fn zw_shorten(
         Shortened::ShortenRefused(x) => x as u64,
         Shortened::ShortenDone(k) => 256 * (k as u64),
     }
+}
+
+// Entries without a signature, the first choice: refusal. The entry is written when done.
+#[no_mangle]
+pub extern "C" fn zw_vouch(answers: &[u8], n: u32, b: u32, room: &mut [u8]) -> u64
+    ensures { λ r. ⌜ Leaves r (now (room .exit)) (now (room .entry)) (vouchOn (now (answers .entry)) n b (now (room .entry))) ⌝ }
+{
+    vouch(answers, n, b, room) as u64
+}
+
+// The second choice, for thresholds: refusal. The entry is written when done.
+#[no_mangle]
+pub extern "C" fn zw_vouch_threshold(
+    answers: &[u8],
+    n: u32,
+    b: u32,
+    largest: u32,
+    room: &mut [u8],
+) -> u64
+    ensures { λ r. ⌜ Leaves r (now (room .exit)) (now (room .entry)) (thresholdOn (now (answers .entry)) n b largest (now (room .entry))) ⌝ }
+{
+    vouch_threshold(answers, n, b, largest, room) as u64
 }
 
 // A server's rule on its record: refusal, 1 if it answers what reached it; 0 for a false answer.

@@ -3,6 +3,7 @@
 
 use crate::codec::image_of;
 use crate::compare::check::Comparison;
+use crate::generate::answers::list;
 use crate::generate::calls::{administrator_call, client_call, server_call, spoil_call};
 use crate::generate::journals::journal;
 use crate::generate::logs::{kept, log};
@@ -15,12 +16,13 @@ use crate::generate::worlds::world;
 use crate::history::operations::run;
 use crate::journal::Journal;
 use crate::judge::{bytes, log_of, LINES, LINE_SIZE, PLACE_SIZE};
-use crate::layout::{IMAGE_SIZE, STEP_SIZE};
+use crate::layout::{ENTRY_SIZE, IMAGE_SIZE, STEP_SIZE};
 use crate::readable::Clause;
 use crate::record::{step_kind, Step};
 use crate::rules::Sound;
 use crate::shorten::STEPS as LONGEST;
 use crate::step::step;
+use crate::vouch;
 use crate::world::World;
 use crate::xorshift::Draws;
 
@@ -40,6 +42,7 @@ pub fn run_all(comparison: &mut Comparison, steps: usize, journals: usize, seed:
     whole_journals(comparison, &mut draws, journals);
     loads(comparison, &mut draws);
     logs(comparison, &mut draws, steps / 4);
+    lists(comparison, &mut draws, steps);
     let before = comparison.steps;
     while comparison.steps - before < steps as u64 {
         // Images from runs, and images from nowhere.
@@ -150,6 +153,23 @@ fn logs(comparison: &mut Comparison, draws: &mut Draws, count: usize) {
             comparison.judge(&bytes, draws.below(2 * lines.len() * PLACE_SIZE + 1));
             bytes.truncate(draws.below(bytes.len() + 1));
             comparison.judge(&bytes, bytes.len() / LINE_SIZE * PLACE_SIZE);
+        }
+    }
+}
+
+/// Lists of answers, both choices from each; other lengths too.
+fn lists(comparison: &mut Comparison, draws: &mut Draws, count: usize) {
+    for _ in 0..count {
+        let list = list(draws);
+        let mut answers = vouch::bytes(&list.answers);
+        comparison.vouch(&list, &answers, ENTRY_SIZE);
+        if draws.chance(2) {
+            comparison.vouch(&list, &answers, draws.below(2 * ENTRY_SIZE));
+            answers.truncate(draws.below(answers.len() + 1));
+            comparison.vouch(&list, &answers, ENTRY_SIZE);
+            // More answers than there can be servers.
+            let many = [0x21; 40 * vouch::ANSWER_SIZE];
+            comparison.vouch(&list, &many, ENTRY_SIZE);
         }
     }
 }

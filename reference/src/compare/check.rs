@@ -4,6 +4,7 @@
 use crate::codec::decode;
 use crate::compare::counts::{Counts, Operation};
 use crate::compare::library::{pack, pack_result, Library};
+use crate::generate::answers::List;
 use crate::judge::{is_judged, judge, lines, PLACE_SIZE};
 use crate::load::load;
 use crate::operations;
@@ -12,6 +13,7 @@ use crate::readable::broken;
 use crate::refusal::Reason;
 use crate::shorten::shorten;
 use crate::single;
+use crate::vouch::{vouch, vouch_threshold};
 
 /// Bytes before and after a lent buffer, which nobody may write.
 const MARGIN: usize = 64;
@@ -56,6 +58,8 @@ pub struct Comparison<'a> {
     /// Calls of single machines.
     pub singles: u64,
     pub logs: u64,
+    /// Lists of answers to choose from.
+    pub lists: u64,
     /// Journals shortened.
     pub shortened: u64,
     /// The first differences, in words.
@@ -75,6 +79,7 @@ impl<'a> Comparison<'a> {
             singles: 0,
             logs: 0,
             shortened: 0,
+            lists: 0,
             told: Vec::new(),
         }
     }
@@ -307,6 +312,51 @@ impl<'a> Comparison<'a> {
         });
         let same = buffer.content() == short && buffer.margins_whole();
         self.score(same, || format!("{what}: another short journal"));
+        self.unwritten(&lent, &expected, &what);
+    }
+
+    /// Both choices from this list, into buffers of this length.
+    pub fn vouch(&mut self, list: &List, answers: &[u8], length: usize) {
+        let List { n, b, largest, .. } = *list;
+        self.lists += 1;
+        self.choice(
+            Operation::Vouch,
+            answers,
+            length,
+            |entry| vouch(answers, n, b, entry),
+            |library, answers, entry| library.vouch(answers, n, b, entry),
+        );
+        self.choice(
+            Operation::VouchThreshold,
+            answers,
+            length,
+            |entry| vouch_threshold(answers, n, b, largest, entry),
+            |library, answers, entry| library.vouch_threshold(answers, n, b, largest, entry),
+        );
+    }
+
+    fn choice(
+        &mut self,
+        operation: Operation,
+        answers: &[u8],
+        length: usize,
+        ours: impl FnOnce(&mut [u8]) -> Result<(), Reason>,
+        theirs: impl FnOnce(&dyn Library, &[u8], &mut [u8]) -> u64,
+    ) {
+        let before = vec![MARK; length];
+        let mut after = before.clone();
+        let ours = ours(&mut after);
+        match ours {
+            Ok(()) => self.counts.accept(operation),
+            Err(reason) => self.counts.refuse(operation, reason),
+        }
+        let what = format!("{operation:?} of {} bytes ({ours:?})", answers.len());
+        let mut lent = Lent::new(answers);
+        let expected = lent.bytes.clone();
+        let answer = pack_result(ours.map(|()| 0));
+        self.compare_image(&before, &after, answer, &what, |library, entry| {
+            theirs(library, lent.content(), entry)
+        });
         self.unwritten(&lent, &expected, &what);
     }
 

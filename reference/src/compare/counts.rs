@@ -29,13 +29,15 @@ pub enum Operation {
     Load,
     Judge,
     Shorten,
+    Vouch,
+    VouchThreshold,
     /// The rules of single machines.
     Server,
     Client,
     Administrator,
 }
 
-pub const OPERATIONS: [Operation; 20] = [
+pub const OPERATIONS: [Operation; 22] = [
     Operation::Fresh,
     Operation::Quorum,
     Operation::Write,
@@ -53,6 +55,8 @@ pub const OPERATIONS: [Operation; 20] = [
     Operation::Load,
     Operation::Judge,
     Operation::Shorten,
+    Operation::Vouch,
+    Operation::VouchThreshold,
     Operation::Server,
     Operation::Client,
     Operation::Administrator,
@@ -76,7 +80,7 @@ impl Operation {
 }
 
 /// The last refusal's number.
-pub const LAST_REFUSAL: u8 = 15;
+pub const LAST_REFUSAL: u8 = 16;
 
 /// Counts of what was met.
 #[derive(Clone, Debug, Default)]

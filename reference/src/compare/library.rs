@@ -8,6 +8,7 @@ use crate::quorum::quorum_size;
 use crate::refusal::Reason;
 use crate::shorten::shorten;
 use crate::single;
+use crate::vouch::{vouch, vouch_threshold};
 
 /// Something that answers the calls of the C interface.
 pub trait Library {
@@ -35,6 +36,17 @@ pub trait Library {
         f: u8,
         journal: &[u8],
         shorter: &mut [u8],
+    ) -> u64;
+    /// The first choice among unsigned entries: the refusal.
+    fn vouch(&self, answers: &[u8], n: u32, b: u32, entry: &mut [u8]) -> u64;
+    /// The second choice, with the largest permitted b: the refusal.
+    fn vouch_threshold(
+        &self,
+        answers: &[u8],
+        n: u32,
+        b: u32,
+        largest: u32,
+        entry: &mut [u8],
     ) -> u64;
     /// A server's rule on its record: the refusal, and 1 if it answers.
     fn server(&self, record: &mut [u8], asked: &[u8]) -> u64;
@@ -105,6 +117,21 @@ impl Library for Reference {
         shorter: &mut [u8],
     ) -> u64 {
         pack_result(shorten(image, members, f, journal, shorter).map(|steps| steps as u64))
+    }
+
+    fn vouch(&self, answers: &[u8], n: u32, b: u32, entry: &mut [u8]) -> u64 {
+        pack_result(vouch(answers, n, b, entry).map(|()| 0))
+    }
+
+    fn vouch_threshold(
+        &self,
+        answers: &[u8],
+        n: u32,
+        b: u32,
+        largest: u32,
+        entry: &mut [u8],
+    ) -> u64 {
+        pack_result(vouch_threshold(answers, n, b, largest, entry).map(|()| 0))
     }
 
     fn server(&self, record: &mut [u8], asked: &[u8]) -> u64 {

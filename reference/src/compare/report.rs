@@ -28,13 +28,14 @@ pub fn report(comparison: &Comparison) -> String {
     line(
         &mut text,
         &format!(
-            "{} single steps, {} journals ({} replays), {} calls of single machines, {} logs and {} \
-             shortened journals compared",
+            "{} single steps, {} journals ({} replays), {} calls of single machines, {} logs, {} lists of \
+             answers and {} shortened journals compared",
             comparison.steps,
             comparison.journals,
             comparison.replays,
             comparison.singles,
             comparison.logs,
+            comparison.lists,
             comparison.shortened,
         ),
     );

@@ -1,6 +1,7 @@
 //! What the rules are tried on: journals of runs, readable worlds that no run
 //! reaches, spoiled images, and steps aimed at a given world.
 
+pub mod answers;
 pub mod calls;
 pub mod journals;
 pub mod logs;

@@ -26,6 +26,9 @@ struct Changed {
     order: fn(u64, &mut [u8]),
     /// What becomes of the image and of the short journal, beside the answer.
     short: fn(u64, &mut [u8], &mut [u8]),
+    /// What becomes of the entry chosen, by the second choice or the first,
+    /// beside the answer.
+    entry: fn(bool, u64, &mut [u8]),
 }
 
 /// Nothing changed yet.
@@ -39,6 +42,7 @@ fn same() -> Changed {
         seed: |seed| seed,
         order: |_, _| {},
         short: |_, _, _| {},
+        entry: |_, _, _| {},
     }
 }
 
@@ -104,6 +108,25 @@ impl Library for Changed {
     ) -> u64 {
         let answer = Reference.shorten(image, members, f, journal, shorter);
         (self.short)(answer, image, shorter);
+        answer
+    }
+
+    fn vouch(&self, answers: &[u8], n: u32, b: u32, entry: &mut [u8]) -> u64 {
+        let answer = Reference.vouch(answers, n, b, entry);
+        (self.entry)(false, answer, entry);
+        answer
+    }
+
+    fn vouch_threshold(
+        &self,
+        answers: &[u8],
+        n: u32,
+        b: u32,
+        largest: u32,
+        entry: &mut [u8],
+    ) -> u64 {
+        let answer = Reference.vouch_threshold(answers, n, b, largest, entry);
+        (self.entry)(true, answer, entry);
         answer
     }
 
@@ -306,6 +329,30 @@ fn another_short_journal_fails() {
     ];
     for short in others {
         assert!(!shortens(&Changed { short, ..same() }));
+    }
+}
+
+#[test]
+fn another_entry_chosen_fails() {
+    let others: [fn(bool, u64, &mut [u8]); 3] = [
+        |second, answer, entry| {
+            if !second && answer == 0 {
+                entry[8] ^= 1;
+            }
+        },
+        |second, answer, entry| {
+            if second && answer == 0 {
+                entry[0] ^= 1;
+            }
+        },
+        |_, answer, entry| {
+            if answer == 16 {
+                entry[0] ^= 1;
+            }
+        },
+    ];
+    for entry in others {
+        assert!(!passes(&Changed { entry, ..same() }));
     }
 }
 

@@ -232,6 +232,33 @@ fn single_paths() -> Vec<(Operation, Reason)> {
         .collect()
 }
 
+/// The refusals of both choices from a list of answers.
+fn list_paths() -> Vec<(Operation, Reason)> {
+    use Flaw::*;
+    let flaws = [
+        Servers,
+        Spare,
+        Writer,
+        ServerRange,
+        ServerTwice,
+        TooFewAnswers,
+    ];
+    let shared: Vec<Reason> = [
+        Reason::AnswersLength,
+        Reason::EntryLength,
+        Reason::NotVouched,
+    ]
+    .into_iter()
+    .chain(flaws.map(Reason::Malformed))
+    .collect();
+    let second = (Operation::VouchThreshold, Reason::Malformed(Flaw::LargestB));
+    [Operation::Vouch, Operation::VouchThreshold]
+        .into_iter()
+        .flat_map(|operation| shared.iter().map(move |reason| (operation, *reason)))
+        .chain([second])
+        .collect()
+}
+
 /// The refusals of a log.
 fn log_paths() -> Vec<(Operation, Reason)> {
     use Flaw::*;
@@ -283,6 +310,7 @@ fn every_path() -> BTreeSet<(Operation, Reason)> {
     ]);
     paths.extend(single_paths());
     paths.extend(log_paths());
+    paths.extend(list_paths());
     let steps = [
         Operation::Write,
         Operation::Read,
@@ -358,6 +386,13 @@ fn the_cases_reach_every_refusal_by_every_path_and_every_close() {
     }
     let deeds: BTreeSet<Deed> = counts.deeds.keys().copied().collect();
     assert_eq!(deeds, every_deed());
+    // Both choices, and each of their refusals, are met often.
+    for path in list_paths() {
+        assert!(counts.refused[&path] >= LEAST, "{path:?}");
+    }
+    for operation in [Operation::Vouch, Operation::VouchThreshold] {
+        assert!(counts.accepted[&operation] >= LEAST);
+    }
     for clause in Clause::ALL {
         assert!(
             counts.clauses.contains_key(clause),

@@ -15,6 +15,7 @@ mod refusals;
 mod shorten;
 mod single;
 mod traps;
+mod vouch;
 
 use reference::codec::image_of;
 use reference::operations;

@@ -1,0 +1,6 @@
+// Entries without a signature: chosen by how many servers show them.
+mod answers;
+pub mod call;
+mod checks;
+mod choice;
+mod support;
