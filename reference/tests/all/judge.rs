@@ -195,7 +195,9 @@ fn runs_of_wrong_ideas_are_judged_no() {
         });
         for journal in std::iter::once((idea.by_hand)()).chain(found) {
             let number = judged(&(idea.log)(&journal)).map_or_else(Reason::number, |_| 0);
-            assert!(matches!(number, 13 | 14), "{}", idea.name);
+            // A stamp given twice makes the log malformed.
+            let twice = idea.name == "a given-up write's stamp is given again";
+            assert_eq!(number, if twice { 14 } else { 13 }, "{}", idea.name);
         }
     }
 }
