@@ -33,18 +33,19 @@ fn wide(x: u32) -> u64
     x as u64
 }
 
-// A used field takes one draw: "its remainder by the size of the field's range plus the lowest value". An unused one takes none.
+// A used field takes one draw: "its remainder by the size of the field's range plus the lowest value". An unused one takes none: the
+// test comes first, so that a kind without the field jumps over the draw.
 pub fn drawn(used: bool, range: Range, state: u32) -> Drawn
     requires { ⌜ range .low ≤ range .high ⌝ }
     ensures { λ r. ⌜ r ≡ drawnBy used range state ⌝ }
 {
-    let d = draw(state);
     if !used {
         return Drawn {
             value: 0,
             state: state,
         };
     }
+    let d = draw(state);
     let size = range.high as u64 + 1 - range.low as u64;
     let rest = wide(d) % size;
     Drawn {

@@ -3,11 +3,11 @@ use borrow.Author.Needs.{needs}
 use Rattle.loads.proofs.draws.drawn.Statement.{statement}
 use Rattle.loads.proofs.draws.drawn.Tie as tie
 
-draw-requires : tie.Need-draw-requires
-draw-requires c κs = search needs
-
 returns : tie.Need-returns
 returns c = search (drawn-none, needs)
+
+draw-requires : tie.Need-draw-requires
+draw-requires c κs = search needs
 
 cast-size : tie.Need-cast-size
 cast-size c = search needs
@@ -40,8 +40,8 @@ pub drawn-spec : {M : Type 1} → statement M
 drawn-spec =
     tie.close
     (tie.spec
-    draw-requires
     returns
+    draw-requires
     cast-size
     add-size
     cast-size-2
