@@ -25,7 +25,7 @@ extern "C" {
 #define ZW_CLIENT 20           /* bytes of a client's record */
 #define ZW_ADMINISTRATOR 4     /* bytes of the administrator's record */
 #define ZW_SERVER_CALL 24      /* bytes of what is asked of a server */
-#define ZW_CLIENT_CALL 16      /* bytes of what is asked of a client */
+#define ZW_CLIENT_CALL 17      /* bytes of what is asked of a client */
 #define ZW_ADMINISTRATOR_CALL 12 /* bytes of what is asked of the administrator */
 #define ZW_SHORTEN_STEPS 512   /* steps of a journal that is shortened, at most */
 #define ZW_LOG_LINE 20         /* bytes of a line of a log that is judged */
@@ -132,9 +132,10 @@ uint64_t zw_vouch_threshold(const uint8_t *answers, size_t m, uint32_t n, uint32
 uint64_t zw_server(uint8_t *server, size_t n, const uint8_t *call, size_t m);
 
 /* A client: it begins a write or a read (rules 1, 2), its phase closes with an
- * entry (rule 4), or it gives its operation up (rule 8, all else of the call
- * zero; 12, it is idle). Result 1 if its operation is complete, else 0, as for
- * one that is given up. */
+ * entry (rule 4; a read whose answers all carry it, the call's last byte being 1,
+ * is complete and sends nothing), or it gives its operation up (rule 8, all else
+ * of the call zero; 12, it is idle). Result 1 if its operation is complete, else
+ * 0, as for one that is given up. */
 uint64_t zw_client(uint8_t *client, size_t n, const uint8_t *call, size_t m);
 
 /* The administrator: it calls a new view, or END closes. Result 0. */

@@ -23,19 +23,28 @@ pub fn begin(client: &Client, kind: u8, entry: Entry, request: u16) -> Result<Cl
 
 /// The READ phase of the client of this number closes with the chosen entry: a
 /// WRITE of that number goes out, with a new entry for a write and the chosen
-/// one for a read.
+/// one for a read. A read whose answers all carry one entry is complete, and
+/// nothing goes out.
 pub fn close_read<R: Rules>(
     client: &Client,
     number: u8,
     chosen: Entry,
+    one_entry: bool,
     request: u16,
 ) -> Result<Client, Reason> {
+    let read = client.kind != operation_kind::WRITE;
+    if read && (one_entry || R::SKIPS_WRITE_BACK) {
+        return Ok(Client {
+            entry: chosen,
+            ..close_write(client)
+        });
+    }
     let writing = Client {
         phase: phase::WRITING,
         request,
         ..*client
     };
-    if client.kind != operation_kind::WRITE {
+    if read {
         return Ok(Client {
             entry: chosen,
             ..writing
@@ -60,7 +69,7 @@ fn new_count<R: Rules>(client: &Client, read: u32) -> Result<u32, Reason> {
     Ok(next.max(own.ok_or(Reason::OwnCountTooLarge)?))
 }
 
-/// A WRITE phase closes: the operation is complete, and its entry stays in the
+/// The last phase closes: the operation is complete, and its entry stays in the
 /// record.
 pub fn close_write(client: &Client) -> Client {
     Client {

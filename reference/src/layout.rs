@@ -33,10 +33,10 @@ pub const ADMINISTRATOR_AT: usize = 4;
 pub const ADMINISTRATOR_SIZE: usize = 4;
 
 /// What is asked of a single machine: four bytes, then a message, an entry or a
-/// view.
+/// view; of a client a flag more.
 pub const ASKED_SIZE: usize = 4;
 pub const SERVER_CALL_SIZE: usize = ASKED_SIZE + MESSAGE_SIZE;
-pub const CLIENT_CALL_SIZE: usize = ASKED_SIZE + ENTRY_SIZE;
+pub const CLIENT_CALL_SIZE: usize = ASKED_SIZE + ENTRY_SIZE + 1;
 pub const ADMINISTRATOR_CALL_SIZE: usize = ASKED_SIZE + VIEW_SIZE;
 
 /// Where each part of the image begins.

@@ -11,7 +11,7 @@ pub trait Rules {
     const ADDS_UP_VIEWS: bool = false;
     /// A START that comes again gives back the key that was given up.
     const START_RETURNS_KEY: bool = false;
-    /// A read ends with its READ phase.
+    /// A read ends with its READ phase, whatever its answers carry.
     const SKIPS_WRITE_BACK: bool = false;
     /// A write's count is one above the count read, whatever its client gave
     /// before.

@@ -61,9 +61,9 @@ impl Script {
         self.act(Step::take(answer));
     }
 
-    /// Both phases of the client's open operation, on the same servers.
+    /// All phases of the client's open operation, on the same servers.
     pub fn finish(&mut self, client: u8, servers: &[u8]) {
-        for _ in 0..2 {
+        while self.request(client) != 0 {
             self.exchange(self.request(client), servers);
         }
     }

@@ -34,6 +34,8 @@ impl Session {
 pub fn sessions() -> Vec<Session> {
     let mut sessions = vec![
         Session::new("worked", worked().input()),
+        Session::new("write-back", write_back().input()),
+        Session::new("one-exchange", one_exchange().input()),
         Session::new("retired-server", retired_server().input()),
         Session::new("replaced-entry", replaced_entry().input()),
         Session::new("stale-read", stale_read().input()),
@@ -46,7 +48,7 @@ pub fn sessions() -> Vec<Session> {
         Session::new("full-table", full_table().input()),
         Session::new("empty", Vec::new()),
         Session::new("first-cut-short", worked().input()[..7].to_vec()),
-        Session::new("cut-short", cut(worked().input())),
+        Session::new("cut-short", cut(worked().input()[..9 * STEP_SIZE].to_vec())),
         Session::new(
             "first-of-other-kind",
             worked().input()[STEP_SIZE..].to_vec(),
@@ -83,7 +85,8 @@ fn with_byte(mut input: Vec<u8>, place: usize, byte: u8) -> Vec<u8> {
     input
 }
 
-/// Document 01's session.
+/// Document 01's session. The read ends with its first exchange, so what
+/// follows finds no message 7.
 pub fn worked() -> Journal {
     Journal::new(0b1, 0)
         .then(Step::write(1, 7))
@@ -96,6 +99,36 @@ pub fn worked() -> Journal {
         .then(Step::take(6))
         .then(Step::deliver(1, 7))
         .then(Step::take(8))
+}
+
+/// The write has reached two of three servers; the read hears one of them and
+/// the third, and writes back.
+pub fn write_back() -> Journal {
+    let mut script = Script::new(0b111, 0);
+    script.write(1, 7, &[1, 2]);
+    script.act(Step::read(2));
+    script.exchange(script.request(2), &[1, 3]);
+    script.exchange(script.request(2), &[1, 3]);
+    script.journal
+}
+
+/// A read ends in one exchange. Then the view changes and a server turns faulty,
+/// which shows what was before the write; a second read ends with the same entry.
+pub fn one_exchange() -> Journal {
+    let mut script = Script::new(0b1111, 1);
+    script.write(1, 1500, &[1, 2, 3]);
+    script.read(2, &[1, 2, 3]);
+    script.act(Step::fault(1));
+    script.act(Step::new_view(0b111100, 1));
+    let end = script.world.header.end;
+    script.lie(1, 1, end, 0);
+    script.exchange(end, &[3, 4]);
+    let start = script.last();
+    for server in [3, 5, 6] {
+        script.act(Step::deliver(server, start));
+    }
+    script.read(2, &[3, 5, 6]);
+    script.journal
 }
 
 /// Server 3 never heard that its view ended. It shows the reader the replaced
@@ -186,13 +219,14 @@ pub fn given_up() -> Journal {
     script.exchange(script.request(1), &[1, 2]);
     script.act(Step::give_up(1));
     script.write(1, 1500, &[2, 3]);
-    script.read(2, &[1, 3]);
-    // Given up again, in its first phase; a read given up while it writes back.
-    script.act(Step::write(1, 2000));
-    script.act(Step::give_up(1));
+    // A read is given up while it writes back.
     script.act(Step::read(2));
     script.exchange(script.request(2), &[1, 2]);
     script.act(Step::give_up(2));
+    script.read(2, &[1, 3]);
+    // Given up again, in its first phase.
+    script.act(Step::write(1, 2000));
+    script.act(Step::give_up(1));
     script.write(1, 2500, &[1, 2]);
     script.read(2, &[2, 3]);
     script.journal

@@ -35,7 +35,7 @@ fn whole<const N: usize>(bytes: &[u8]) -> Result<[u8; N], Reason> {
 
 /// The part of what is asked behind its first four bytes.
 fn part<const N: usize, R: Record<N>>(asked: &[u8]) -> R {
-    let bytes = asked[ASKED_SIZE..].try_into();
+    let bytes = asked[ASKED_SIZE..ASKED_SIZE + N].try_into();
     R::load(bytes.expect("what is asked has its length"))
 }
 
@@ -95,9 +95,11 @@ pub fn client_call(record: &mut [u8], asked: &[u8]) -> Result<bool, Reason> {
     let asked: [u8; CLIENT_CALL_SIZE] = whole(asked)?;
     let client = Client::load(&bytes);
     let entry: Entry = part(&asked);
-    let [rule, number, n0, n1, ..] = asked;
+    let [rule, number, n0, n1, .., one_entry] = asked;
     let request = u16::from_le_bytes([n0, n1]);
     ask(client_fits(&client), Reason::RecordRange)?;
+    let flag_fits = one_entry <= u8::from(rule == step_kind::TAKE);
+    ask(flag_fits, Reason::CallRange)?;
     let after = match rule {
         step_kind::WRITE => {
             let only_value = Entry::new(0, 0, entry.value);
@@ -110,7 +112,7 @@ pub fn client_call(record: &mut [u8], asked: &[u8]) -> Result<bool, Reason> {
             ask(fits, Reason::CallRange)?;
             client::begin(&client, operation_kind::READ, entry, request)?
         }
-        step_kind::TAKE => closed(&client, number, entry, request)?,
+        step_kind::TAKE => closed(&client, number, entry, one_entry == 1, request)?,
         step_kind::GIVE_UP => {
             let fits = number == 0 && request == 0 && entry.is_empty();
             ask(fits, Reason::CallRange)?;
@@ -122,15 +124,23 @@ pub fn client_call(record: &mut [u8], asked: &[u8]) -> Result<bool, Reason> {
     Ok(rule == step_kind::TAKE && after.phase == phase::IDLE)
 }
 
-/// The open phase closes with the largest entry of its answers.
-fn closed(client: &Client, number: u8, entry: Entry, request: u16) -> Result<Client, Reason> {
+/// The open phase closes with the largest entry of its answers, and with
+/// whether all carry that one. A number is needed only where a WRITE is sent.
+fn closed(
+    client: &Client,
+    number: u8,
+    entry: Entry,
+    one_entry: bool,
+    request: u16,
+) -> Result<Client, Reason> {
     let fits = (1..=LAST_CLIENT).contains(&number) && entry_fits(&entry);
     ask(fits, Reason::CallRange)?;
     match client.phase {
         phase::IDLE => Err(Reason::NothingOpen),
         phase::READING => {
-            ask(is_number(request), Reason::CallRange)?;
-            client::close_read::<Sound>(client, number, entry, request)
+            let sends = client.kind == operation_kind::WRITE || !one_entry;
+            ask(!sends || is_number(request), Reason::CallRange)?;
+            client::close_read::<Sound>(client, number, entry, one_entry, request)
         }
         _ => Ok(client::close_write(client)),
     }

@@ -17,7 +17,8 @@ use crate::world::{message_kind, operation_kind, Message, View, World};
 pub enum Close {
     /// The READ phase of a write.
     ReadOfWrite,
-    /// The READ phase of a read.
+    /// The READ phase of a read. When it closes, `OneExchange` or `WroteBack`
+    /// says how.
     ReadOfRead,
     /// The WRITE phase of a write.
     WriteOfWrite,
@@ -25,6 +26,15 @@ pub enum Close {
     WriteOfRead,
     /// The END of the newest view.
     End,
+}
+
+/// In what the answers of a read differ.
+#[derive(Clone, Copy, Debug, PartialEq, Eq, Hash, PartialOrd, Ord)]
+pub enum Differ {
+    /// In the value alone.
+    Value,
+    /// In the stamp.
+    Stamp,
 }
 
 /// What an accepted step did.
@@ -44,6 +54,12 @@ pub enum Deed {
     CountsForNothing,
     /// The answer closed what waited for it.
     Closed(Close),
+    /// The answer closed the READ phase of a read, whose answers differ: the
+    /// chosen entry is written back.
+    WroteBack(Differ),
+    /// The answer closed the READ phase of a read, whose answers all carry one
+    /// entry: the read is complete.
+    OneExchange,
     /// A server turned faulty.
     Faulted,
     /// A faulty server answered.

@@ -6,8 +6,8 @@ use crate::client;
 use crate::entry::Entry;
 use crate::refusal::Reason;
 use crate::rules::Rules;
-use crate::step::{Close, Deed, Done, Outcome};
-use crate::world::{bit, message_kind, operation_kind, phase, Message, World};
+use crate::step::{Close, Deed, Differ, Done, Outcome};
+use crate::world::{bit, message_kind, operation_kind, phase, Client, Message, World};
 
 /// What the answers of one view to one request amount to, the one just taken
 /// included.
@@ -18,6 +18,8 @@ struct Tally {
     answers: u32,
     /// Their largest entry; of equal stamps the one taken first.
     largest: Entry,
+    /// In what they differ; none if all carry one entry.
+    differ: Option<Differ>,
 }
 
 impl Tally {
@@ -49,12 +51,7 @@ pub fn take<R: Rules>(world: &mut World, number: u16) -> Outcome {
         return Ok(Done::just(Deed::LeftOpen(close)));
     }
     match close {
-        Close::ReadOfRead if R::SKIPS_WRITE_BACK => {
-            Ok(end_with_read_phase(world, number, tally.largest))
-        }
-        Close::ReadOfWrite | Close::ReadOfRead => {
-            close_read::<R>(world, number, close, tally.largest)
-        }
+        Close::ReadOfWrite | Close::ReadOfRead => close_read::<R>(world, number, close, &tally),
         Close::WriteOfWrite | Close::WriteOfRead => Ok(close_write(world, number, close)),
         Close::End => close_end(world, number, tally.largest),
     }
@@ -86,6 +83,7 @@ fn tally(world: &World, answer: &Message, all_views: bool) -> Tally {
         servers: bit(answer.sender),
         answers: 1,
         largest: answer.entry,
+        differ: None,
     };
     let mut next = world.messages[usize::from(answer.request)].next;
     while next != 0 {
@@ -93,6 +91,7 @@ fn tally(world: &World, answer: &Message, all_views: bool) -> Tally {
         if all_views || taken.view == answer.view {
             tally.servers |= bit(taken.sender);
             tally.answers += 1;
+            tally.differ = tally.differ.max(difference(&answer.entry, &taken.entry));
             if taken.entry.stamp() >= tally.largest.stamp() {
                 tally.largest = taken.entry;
             }
@@ -100,6 +99,15 @@ fn tally(world: &World, answer: &Message, all_views: bool) -> Tally {
         next = taken.next;
     }
     tally
+}
+
+/// In what two entries differ.
+fn difference(one: &Entry, other: &Entry) -> Option<Differ> {
+    if one.stamp() != other.stamp() {
+        Some(Differ::Stamp)
+    } else {
+        (one != other).then_some(Differ::Value)
+    }
 }
 
 /// The answer is taken: it becomes the head of its request's chain.
@@ -118,11 +126,20 @@ fn asker(world: &World, number: u16) -> u8 {
     world.messages[usize::from(request)].sender
 }
 
-/// A READ phase closes: the WRITE goes out, with a new entry for a write and
-/// the one chosen for a read.
-fn close_read<R: Rules>(world: &mut World, number: u16, close: Close, chosen: Entry) -> Outcome {
+/// A READ phase closes: the read is complete, or the WRITE goes out, with a new
+/// entry for a write and the one chosen for a read.
+fn close_read<R: Rules>(world: &mut World, number: u16, close: Close, tally: &Tally) -> Outcome {
     let asker = asker(world, number);
-    let after = client::close_read::<R>(world.client(asker), asker, chosen, world.next_number())?;
+    let after = client::close_read::<R>(
+        world.client(asker),
+        asker,
+        tally.largest,
+        tally.differ.is_none(),
+        world.next_number(),
+    )?;
+    if after.phase == phase::IDLE {
+        return Ok(complete(world, number, after, Deed::OneExchange));
+    }
     world
         .number_left()
         .map_err(|_| Reason::NoNumberToClose(close))?;
@@ -134,27 +151,29 @@ fn close_read<R: Rules>(world: &mut World, number: u16, close: Close, chosen: En
         ..Message::default()
     });
     *world.client_mut(asker) = after;
-    Ok(Done::just(Deed::Closed(close)))
+    Ok(Done::just(match tally.differ {
+        Some(differ) if close == Close::ReadOfRead => Deed::WroteBack(differ),
+        _ => Deed::Closed(close),
+    }))
 }
 
 /// A WRITE phase closes: the operation is complete, and its entry stays in the
 /// client's record.
 fn close_write(world: &mut World, number: u16, close: Close) -> Done {
     let asker = asker(world, number);
-    link(world, number);
-    let record = world.client_mut(asker);
-    *record = client::close_write(record);
-    Done {
-        deed: Deed::Closed(close),
-        completed: asker,
-    }
+    let after = client::close_write(world.client(asker));
+    complete(world, number, after, Deed::Closed(close))
 }
 
-/// A wrong idea: the read is complete without its WRITE phase.
-fn end_with_read_phase(world: &mut World, number: u16, chosen: Entry) -> Done {
-    let client = asker(world, number);
-    world.client_mut(client).entry = chosen;
-    close_write(world, number, Close::ReadOfRead)
+/// The answer completes its client's operation, and nothing is sent.
+fn complete(world: &mut World, number: u16, after: Client, deed: Deed) -> Done {
+    let asker = asker(world, number);
+    link(world, number);
+    *world.client_mut(asker) = after;
+    Done {
+        deed,
+        completed: asker,
+    }
 }
 
 /// The END closes: the pending view becomes the newest, and START goes out with

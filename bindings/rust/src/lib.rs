@@ -12,7 +12,7 @@ pub const SERVER: usize = 20;
 pub const CLIENT: usize = 20;
 pub const ADMINISTRATOR: usize = 4;
 pub const SERVER_CALL: usize = 24;
-pub const CLIENT_CALL: usize = 16;
+pub const CLIENT_CALL: usize = 17;
 pub const ADMINISTRATOR_CALL: usize = 12;
 
 /// Bytes of a line of a log, of its number in an order, of an entry, and of an
@@ -146,8 +146,9 @@ pub fn server(server: &mut [u8], call: &[u8]) -> Result<bool, Refusal> {
     result(raw::server(server, call)).map(|answers| answers == 1)
 }
 
-/// A client's rule on its record: it begins, closes a phase or gives up. True if
-/// its operation is complete.
+/// A client's rule on its record: it begins, closes a phase or gives up. The last
+/// byte of a close is 1 if all answers carry the entry. True if the operation is
+/// complete.
 pub fn client(client: &mut [u8], call: &[u8]) -> Result<bool, Refusal> {
     result(raw::client(client, call)).map(|complete| complete == 1)
 }

@@ -89,6 +89,6 @@ given-up-premise = refl
 
 -- the theorem's order: the write of 8, given up, stands before the read that returned its entry; that of 6 stands nowhere
 given-up-order : linearizable 1 0 (begun 1 0) begins-one given-up given-up-premise .order
-    ≡ (operated WRITES 3 0 (entry 1 1 8) ∷ operated READS 12 16 (entry 1 1 8) ∷ operated WRITES 7 18 (entry 2 1 9) ∷ [])
+    ≡ (operated WRITES 3 0 (entry 1 1 8) ∷ operated READS 12 14 (entry 1 1 8) ∷ operated WRITES 7 16 (entry 2 1 9) ∷ [])
 unfolding operations-of given-up linearizable order stands filter sort compared any same sent content
 given-up-order = refl

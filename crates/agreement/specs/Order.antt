@@ -11,38 +11,22 @@ use lib.Dec.{ltb, eqb}
 use borrow.Author.Tests.{ltb-true, eqb-true, eq-eqb, ne-eqb, lt-ltb, le-ltb}
 use Rattle.protocol.specs.declared.Entry.{Entry}
 use Rattle.protocol.specs.Tools.{if, any}
-use Rattle.protocol.specs.Entries.{empty, countOf, writerOf, same}
-use Rattle.protocol.specs.Servers.{WRITE}
+use Rattle.protocol.specs.Entries.{empty, same}
 use Rattle.protocol.specs.Clients.{WRITES, READS}
 use Rattle.protocol.specs.Worlds.{World, message}
 use Rattle.protocol.specs.Consistent.{Operation, In, here, there, Before, now, later, Once, none as nobody, one, Stands, completed, surfaced, Ended, Between, Ordered}
 use Rattle.protocol.specs.Runs.{Tracked, unfinished, entryOf, operation, history}
 use Rattle.protocol.specs.Laws.Tests.{and-left, and-right, and-both, or-cases, clash}
-use Rattle.protocol.specs.Laws.Entries.{_≼_, ≼-count}
+use Rattle.protocol.specs.Laws.Entries.{_≼_, ≼-count, same-is, is-same}
 use Rattle.protocol.specs.Laws.Worlds.{content, sent}
 use Rattle.agreement.specs.Lists.{in-map, map-in, Rising, next, Related, before, after, equal, related}
 use Rattle.agreement.specs.Sorting.{filter, in-filter, filter-in, filter-rising, sort, in-sort, sort-in, sort-sorted}
 use Rattle.agreement.specs.Invariants.{Origin, blank, from}
 use Rattle.agreement.specs.Carried.{Trusted, Read, sees}
-use Rattle.agreement.specs.Operations.{Wrote, Fits, Earlier, Some, Story}
+use Rattle.agreement.specs.Operations.{Wrote, Own, Fits, Chose, Earlier, Some, Story, shows as entryAt, shows-done, shows-sent, chose}
 use Rattle.agreement.specs.Precedence.{_≺_, count, writer, Level, ≺-not, Key, Precedes, by-stamp, by-kind, by-read, precedes-trans, precedes-self, compared, precedes-≼, precedes-≺}
-use Rattle.agreement.specs.Stamps.{unique, entry-done, entry-open}
+use Rattle.agreement.specs.Stamps.{unique, entry-done, entry-open, write-sent}
 use Rattle.agreement.specs.Legal.{Stand, Source, held, Asks, legal, equal-reads}
-
--- entries that agree in every field are one
-pub same-is : (a b : Entry) → same a b ≡ true → a ≡ b
-unfolding same
-same-is a b e =
-    let c : countOf a ≡ countOf b = eqb-true _ _ (and-left _ _ e) in
-    let r = and-right (eqb (countOf a) (countOf b)) _ e in
-    let w : writerOf a ≡ writerOf b = eqb-true _ _ (and-left _ _ r) in
-    let v : a .value ≡ b .value = eqb-true _ _ (and-right (eqb (writerOf a) (writerOf b)) _ r) in
-    λ i. record { stamp = record { count = record { 0 = c i }; writer = w i }; value = v i }
-
-pub is-same : (a b : Entry) → a ≡ b → same a b ≡ true
-unfolding same
-is-same a b e =
-    and-both _ _ (eq-eqb _ _ (ap countOf e)) (and-both _ _ (eq-eqb _ _ (ap writerOf e)) (eq-eqb _ _ (ap (λ (x : Entry). x .value) e)))
 
 or-first : (a b : Bool) → a ≡ true → (a || b) ≡ true
 or-first true b e = refl
@@ -116,9 +100,8 @@ once-map f (x ∷ l) n (next h s) =
 -- ---- the operations l of a run that ends in w
 
 module _ {w : World} {place : ℕ} {l : List Tracked} (t : Trusted w) (s : Story w place l) where
-  -- the entry of an operation whose WRITE is sent
   abbrev shows : Tracked → Entry
-  shows o = sent w (o .write) .entry
+  shows o = entryAt w o
 
   abbrev key : Tracked → Key
   key o = record { entry = shows o; kind = o .kind; read = o .read }
@@ -148,17 +131,17 @@ module _ {w : World} {place : ℕ} {l : List Tracked} (t : Trusted w) (s : Story
   record Stood (o : Tracked) : Type 0 where
     member : In o l
     test : stands o ≡ true
-    write : 1 ≤ o .write
+    made : (1 ≤ o .write) ⊎ (1 ≤ o .end)
 
   stood : {o : Tracked} → In o order → Stood o
   unfolding order stands
   stood {o} i =
       let (m, e) = in-filter stands l (in-sort _ _ _ (filter stands l) i) in
-      record { member = m; test = e; write = go m (or-cases _ _ e) }
+      record { member = m; test = e; made = go (or-cases _ _ e) }
     where
-      go : In o l → (not (unfinished o) ≡ true) ⊎ ((eqb (o .kind) WRITES && (ltb 0 (o .write) && returned o)) ≡ true) → 1 ≤ o .write
-      go m (inl e) = s .fits o m .done (finished o e) .wrote
-      go m (inr e) = ltb-true _ _ (and-left _ _ (and-right (eqb (o .kind) WRITES) _ e))
+      go : (not (unfinished o) ≡ true) ⊎ ((eqb (o .kind) WRITES && (ltb 0 (o .write) && returned o)) ≡ true) → (1 ≤ o .write) ⊎ (1 ≤ o .end)
+      go (inl e) = inr (finished o e)
+      go (inr e) = inl (ltb-true _ _ (and-left _ _ (and-right (eqb (o .kind) WRITES) _ e)))
 
   stand-in : {o : Tracked} → In o l → stands o ≡ true → In o order
   unfolding order
@@ -193,13 +176,10 @@ module _ {w : World} {place : ℕ} {l : List Tracked} (t : Trusted w) (s : Story
       }
 
   -- an operation that ended before another began: its entry is not above what the other chose
-  sees-later : (a b : Tracked) → In a l → In b l → 1 ≤ a .end → a .end < b .begin → (g : Wrote w (b .client) (b .kind) (b .read) (b .write)) → shows a ≼ g .chosen
+  sees-later : (a b : Tracked) → In a l → In b l → 1 ≤ a .end → a .end < b .begin → (g : Chose w b) → shows a ≼ g .chosen
   sees-later a b i j e h g =
       let d = s .fits a i .done e in
-      rw (d .entry) at (sees t (d .held) (seen-from (omega (arith, d .later b j h)) (g .seen)))
-
-  abbrev Sent : Tracked → Type 0
-  Sent o = Wrote w (o .client) (o .kind) (o .read) (o .write)
+      rw (shows-done w a e) (sees t (d .held) (seen-from (omega (arith, d .later b j h)) (g .seen)))
 
   -- W12: an entry is empty or that of a write operation
   data Written (e : Entry) : Type 0 where
@@ -222,14 +202,14 @@ module _ {w : World} {place : ℕ} {l : List Tracked} (t : Trusted w) (s : Story
           pos : 1 ≤ b .of .write
           pos = omega (arith, b .has)
 
-          g : Sent (b .of)
+          g : Wrote w (b .of .client) (b .of .kind) (b .of .read) (b .of .write)
           g = s .fits (b .of) (b .member) .wrote pos
 
-          is : shows (b .of) ≡ x
+          is : sent w (b .of .write) .entry ≡ x
           is = ap (λ (j : ℕ). sent w j .entry) (b .has) ∙ e
 
           kinds : (b .of .kind ≡ WRITES) ⊎ (b .of .kind ≡ READS) → Written x
-          kinds (inl q) = by (b .of) (b .member) q pos is
+          kinds (inl q) = by (b .of) (b .member) q pos (shows-sent (s .fits (b .of) (b .member)) pos ∙ is)
           kinds (inr q) = subst Written (sym (g .back q) ∙ is) (ih (g .chosen) (further (omega (arith, b .has)) (g .origin)))
 
       at : Dec (k ≡ 0) → ((y : Entry) → Origin w n y → Written y) → Written x
@@ -238,17 +218,24 @@ module _ {w : World} {place : ℕ} {l : List Tracked} (t : Trusted w) (s : Story
 
   -- ---- the operations that stand, in their order
 
-  sent-of : {o : Tracked} → In o order → Sent o
-  sent-of {o} i = let d = stood i in s .fits o (d .member) .wrote (d .write)
+  chose-of : {o : Tracked} → In o order → Chose w o
+  chose-of {o} i = let d = stood i in chose (s .fits o (d .member)) (d .made)
+
+  own-of : {o : Tracked} → In o order → o .kind ≡ WRITES → Own o
+  own-of {o} i k = let d = stood i in go d (d .made)
+    where
+      go : Stood o → (1 ≤ o .write) ⊎ (1 ≤ o .end) → Own o
+      go d (inl h) = record { write = k; sent = h }
+      go d (inr h) = write-sent s o (d .member) k h
 
   entry-of : {o : Tracked} → In o order → entryOf w o ≡ some (shows o)
   unfolding stands
   entry-of {o} i = let d = stood i in go d (or-cases _ _ (d .test)) (ℕ-discrete (o .end) 0)
     where
       go : Stood o → (not (unfinished o) ≡ true) ⊎ ((eqb (o .kind) WRITES && (ltb 0 (o .write) && returned o)) ≡ true) → Dec (o .end ≡ 0) → entryOf w o ≡ some (shows o)
-      go d (inl e) z = entry-done s o (d .member) (finished o e)
-      go d (inr e) (yes z) = entry-open s o z (eqb-true _ _ (and-left _ _ e)) (d .write)
-      go d (inr e) (no z) = entry-done s o (d .member) (omega arith)
+      go d (inl e) z = entry-done s o (finished o e)
+      go d (inr e) (yes z) = entry-open s o z (eqb-true _ _ (and-left _ _ e)) (ltb-true _ _ (and-left _ _ (and-right (eqb (o .kind) WRITES) _ e)))
+      go d (inr e) (no z) = entry-done s o (omega arith)
 
   abbrev op : Tracked → Operation
   op = operation w
@@ -278,16 +265,18 @@ module _ {w : World} {place : ℕ} {l : List Tracked} (t : Trusted w) (s : Story
   asks =
       record {
         stand = stand-of;
-        above = λ x i k. count (omega (arith, sent-of i .above k));
-        unique = λ x y i j p q.
-            unique s x y (stood i .member) (stood j .member) (record { write = p; sent = stood i .write }) (record { write = q; sent = stood j .write });
-        source = λ x i k. go x i k (written _ (omega (arith, sent-of i .below)) (sent-of i .origin));
+        above = λ x i k. count (omega (arith, chose-of i .above k));
+        unique = λ x y i j p q v.
+            let a = own-of i p in
+            let b = own-of j q in
+            unique s x y (stood i .member) (stood j .member) a b (rw (shows-sent (s .fits x (stood i .member)) (a .sent), shows-sent (s .fits y (stood j .member)) (b .sent)) at v);
+        source = λ x i k. go x i k (written _ (omega (arith, chose-of i .below)) (chose-of i .origin));
       }
     where
-      go : (x : Tracked) (i : In x order) → x .kind ≡ READS → Written (sent-of i .chosen) → Source key op empty order x
-      go x i k (never e) = held (sent-of i .back k ∙ e)
+      go : (x : Tracked) (i : In x order) → x .kind ≡ READS → Written (chose-of i .chosen) → Source key op empty order x
+      go x i k (never e) = held (chose-of i .back k ∙ e)
       go x i k (by o j q g e) =
-          let f = sent-of i .back k ∙ sym e in
+          let f = chose-of i .back k ∙ sym e in
           Source.from o (stand-in j (write-stands o x j (stood i .member) q g (read-done x i k) k f)) q (sym f)
 
   -- ---- the claim
@@ -330,7 +319,7 @@ module _ {w : World} {place : ℕ} {l : List Tracked} (t : Trusted w) (s : Story
             held = map-in op l (r .member);
             read = op-kind x ∙ eqb-true _ _ (and-left _ _ k);
             completed = rw (op-end x) f;
-            same = op-entry x ∙ entry-done s x (r .member) f ∙ ap some (same-is _ _ (and-right (eqb (x .kind) READS) _ k)) ∙ sym (entry-of i) ∙ sym (op-entry o);
+            same = op-entry x ∙ entry-done s x f ∙ ap some (same-is _ _ (and-right (eqb (x .kind) READS) _ k)) ∙ sym (entry-of i) ∙ sym (op-entry o);
           })
 
   -- in the history, and standing, so in the order
@@ -360,7 +349,7 @@ module _ {w : World} {place : ℕ} {l : List Tracked} (t : Trusted w) (s : Story
           f = omega (arith, r .completed, ap (λ (y : Operation). y .end) q, op-end x)
 
           shown : some (shows x) ≡ entryOf w o
-          shown = sym (entry-done s x j f) ∙ sym (op-entry x) ∙ ap (λ (y : Operation). y .entry) q ∙ r .same ∙ op-entry o
+          shown = sym (entry-done s x f) ∙ sym (op-entry x) ∙ ap (λ (y : Operation). y .entry) q ∙ r .same ∙ op-entry o
 
           at : Dec (o .write ≡ 0) → In o order
           at (yes z) =
@@ -395,8 +384,8 @@ module _ {w : World} {place : ℕ} {l : List Tracked} (t : Trusted w) (s : Story
       fb : Fits w place l b
       fb = s .fits b (stood j .member)
 
-      g : Sent b
-      g = sent-of j
+      g : Chose w b
+      g = chose-of j
 
       v : shows a ≼ g .chosen
       v = sees-later a b (stood i .member) (stood j .member) e f g

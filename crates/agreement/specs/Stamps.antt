@@ -19,7 +19,7 @@ use Rattle.protocol.specs.Consistent.{Operation, In}
 use Rattle.protocol.specs.Runs.{Tracked, entryOf, operation, Run, runFrom, history}
 use Rattle.protocol.specs.Laws.Worlds.{content, sent}
 use Rattle.agreement.specs.Lists.{in-map, Related, before, after, equal, related}
-use Rattle.agreement.specs.Operations.{Own, Earlier, Story}
+use Rattle.agreement.specs.Operations.{shows, shows-sent, Own, Earlier, Story}
 use Rattle.agreement.specs.Precedence.{Level}
 use Rattle.agreement.specs.Reached.{Reached, reached}
 
@@ -36,13 +36,21 @@ module _ {w : World} {place : ℕ} {l : List Tracked} (s : Story w place l) wher
       go (equal e) = e
 
   -- the entry of a completed operation, and of an unfinished write whose WRITE is sent
-  pub entry-done : (o : Tracked) → In o l → 1 ≤ o .end → entryOf w o ≡ some (sent w (o .write) .entry)
+  pub entry-done : (o : Tracked) → 1 ≤ o .end → entryOf w o ≡ some (shows w o)
   unfolding entryOf
-  entry-done o i h = rw (ne-eqb (o .end) 0 (λ e. omega arith)) (ap some (s .fits o i .done h .entry))
+  entry-done o h = rw (ne-eqb (o .end) 0 (λ e. omega arith)) refl
 
-  pub entry-open : (o : Tracked) → o .end ≡ 0 → o .kind ≡ WRITES → 1 ≤ o .write → entryOf w o ≡ some (sent w (o .write) .entry)
+  pub entry-open : (o : Tracked) → o .end ≡ 0 → o .kind ≡ WRITES → 1 ≤ o .write → entryOf w o ≡ some (shows w o)
   unfolding entryOf sent content
   entry-open o h k g = rw (eq-eqb (o .end) 0 h, eq-eqb (o .kind) WRITES k, lt-ltb 0 (o .write) g) refl
+
+  -- a write that ended sent its WRITE
+  pub write-sent : (o : Tracked) → In o l → o .kind ≡ WRITES → 1 ≤ o .end → Own o
+  write-sent o i k h = go (ℕ-discrete (o .write) 0)
+    where
+      go : Dec (o .write ≡ 0) → Own o
+      go (yes z) = absurd (omega (arith, s .fits o i .done h .once z .read, k))
+      go (no z) = record { write = k; sent = omega arith }
 
   -- a write operation that has an entry has sent its WRITE
   entry-sent : (o : Tracked) → In o l → o .kind ≡ WRITES → {e : Entry} → entryOf w o ≡ some e → Own o × (sent w (o .write) .entry ≡ e)
@@ -60,10 +68,11 @@ module _ {w : World} {place : ℕ} {l : List Tracked} (s : Story w place l) wher
       sends z false r = nothing (sym (rw (eq-eqb (o .end) 0 z, eq-eqb (o .kind) WRITES k, r) refl) ∙ q)
 
       go : Dec (o .end ≡ 0) → Own o × (sent w (o .write) .entry ≡ e)
-      go (yes z) = let g = sends z (ltb 0 (o .write)) refl in (record { write = k; sent = g }, is-some (sym (entry-open o z k g) ∙ q))
+      go (yes z) = let g = sends z (ltb 0 (o .write)) refl in (record { write = k; sent = g }, sym (shows-sent (s .fits o i) g) ∙ is-some (sym (entry-open o z k g) ∙ q))
       go (no z) =
           let h : 1 ≤ o .end = omega arith in
-          (record { write = k; sent = s .fits o i .done h .wrote }, is-some (sym (entry-done o i h) ∙ q))
+          let u = write-sent o i k h in
+          (u, sym (shows-sent (s .fits o i) (u .sent)) ∙ is-some (sym (entry-done o h) ∙ q))
 
   -- two write operations of the history with one stamp are one
   pub stamped-once : (x y : Operation) → In x (map (operation w) l) → In y (map (operation w) l) → x .kind ≡ WRITES → y .kind ≡ WRITES

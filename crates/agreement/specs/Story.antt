@@ -23,11 +23,11 @@ use Rattle.protocol.specs.Consistent.{In}
 use Rattle.protocol.specs.Runs.{Tracked, sentWrite, tracked}
 use Rattle.protocol.specs.Laws.Tests.{by-test, clash, last-or}
 use Rattle.protocol.specs.Laws.Worlds.{sent}
-use Rattle.protocol.specs.Laws.Change.{Acted, same, began, wrote, ended, gave-up, Writer, Posted, none, one, Change, Moved}
+use Rattle.protocol.specs.Laws.Change.{Acted, same, began, wrote, ended, exchanged, gave-up, Writer, Posted, none, one, Change, Moved}
 use Rattle.agreement.specs.Lists.{in-map, map-in, in-append, in-left, in-right, Rising, rising-append, rising-map}
 use Rattle.agreement.specs.Invariants.{Inv, grown}
 use Rattle.agreement.specs.Carried.{Held}
-use Rattle.agreement.specs.Operations.{Wrote, Open, reading, writing, Own, Fits, Earlier, Some, Story, givenBy-grows, held-on, wrote-on, wrote-new, given-new, held-new}
+use Rattle.agreement.specs.Operations.{Wrote, Open, reading, writing, Own, Fits, Earlier, Some, Story, givenBy-grows, held-on, wrote-on, wrote-new, given-new, held-new, exchanged-on, exchanged-new, held-once}
 
 -- ---- an operation after a step
 
@@ -111,6 +111,7 @@ module _ {w v : World} {place done starter kind : ℕ} {l new : List Tracked} (n
       go (began e p u h k j g) = u
       go (wrote r p q u h k j y x) = u
       go (ended r p q h k j g x) = absurd (q refl)
+      go (exchanged r p q y b k g x) = absurd (q refl)
       go (gave-up p q i g) = absurd (q refl)
 
   -- what is known of those that began later
@@ -135,6 +136,7 @@ module _ {w v : World} {place done starter kind : ℕ} {l new : List Tracked} (n
       go (began e p u y k j g) = kept g
       go (wrote r p q u y k j z i) = rw (i .given) (givenBy-grows (client w x) (i .entry))
       go (ended r p q y k j g i) = kept g
+      go (exchanged r p q y b k g i) = kept g
       go (gave-up p q i g) = kept g
 
   given-on : (o : Tracked) → Fits w place l o → Own o → countOf (sent v (o .write) .entry) ≤ client v (o .client) .given .0
@@ -160,8 +162,8 @@ module _ {w v : World} {place done starter kind : ℕ} {l new : List Tracked} (n
         done = λ z.
             let d = a .done z in
             record {
-              wrote = d .wrote;
-              entry = d .entry ∙ sym (ap (λ (x : Message). x .entry) (c .old (o .write) (a .wrote (d .wrote) .below)));
+              entry = λ y. d .entry y ∙ sym (ap (λ (x : Message). x .entry) (c .old (o .write) (a .wrote y .below)));
+              once = λ y. exchanged-on c n (d .once y);
               bound = d .bound;
               below = omega (arith, d .below, grown c);
               held = held-on c n (d .held);
@@ -207,8 +209,8 @@ module _ {w v : World} {place done starter kind : ℕ} {l new : List Tracked} (n
   number-is : {a b : ℕ} → number a ≡ number b → a ≡ b
   number-is e = ap (λ (x : MessageNumber). x .0) e
 
-  was-reading : {who r j q : ℕ} → Open w who r j → client w who .phase ≡ Reading (number q) → r ≡ q
-  was-reading (reading p z) e = number-is (cc)
+  was-reading : {who r j q : ℕ} → Open w who r j → client w who .phase ≡ Reading (number q) → (r ≡ q) × (j ≡ 0)
+  was-reading (reading p z) e = (number-is (cc), z)
   was-reading (writing p z x) e = let y : _≡_ {A = ℕ} 0 1 = cc in absurd (omega arith)
 
   was-writing : {who r j q : ℕ} → Open w who r j → client w who .phase ≡ Writing (number q) → (j ≡ q) × (1 ≤ j) × (client w who .entry ≡ sent w j .entry)
@@ -218,6 +220,13 @@ module _ {w v : World} {place done starter kind : ℕ} {l new : List Tracked} (n
   never-idle : {who r j : ℕ} {A : Type 0} → Open w who r j → client w who .phase ≡ Idle → A
   never-idle (reading p z) e = let y : _≡_ {A = ℕ} 0 1 = cc in absurd (omega arith)
   never-idle (writing p z x) e = let y : _≡_ {A = ℕ} 0 1 = cc in absurd (omega arith)
+
+  none-later : (x : Tracked) → In x all → place < x .begin → ⊥
+  none-later x i z = at (in-append (map tr l) new i)
+    where
+      at : In x (map tr l) ⊎ In x new → ⊥
+      at (inl j) = let r = in-map tr l j in omega (arith, s .fits (r .of) (r .member) .began, tracked-begin v place done (r .of), ap (λ (t : Tracked). t .begin) (r .is))
+      at (inr j) = omega (arith, f .fresh x j .begin)
 
   fits-on : (o : Tracked) → In o l → Fits v (place + 1) all (tr o)
   fits-on o i = by-test (o .active) (λ h. go h (m .acted (o .client) (a .low))) (fits-over o i)
@@ -229,7 +238,7 @@ module _ {w v : World} {place done starter kind : ℕ} {l new : List Tracked} (n
       go h (same e p q) = fits-same o i h p e
       go h (began e p u y k j g) = never-idle (a .phase h) y
       go h (wrote r p q u y k j z x) =
-          let b : o .read ≡ r = was-reading (a .phase h) y in
+          let b : o .read ≡ r = was-reading (a .phase h) y .0 in
           rw (tracked-stays v place done o h p, ap (λ (x : Phase). sentWrite x (o .write)) k, ap (λ (x : Phase). not (isIdle x)) k)
           (record {
             low = a .low;
@@ -264,21 +273,39 @@ module _ {w v : World} {place done starter kind : ℕ} {l new : List Tracked} (n
             going = λ z. clash z refl;
             given = λ z. given-on o a (record { write = z .write; sent = z .sent });
             done = λ _. record {
-              wrote = t;
-              entry = is ∙ sym old;
+              entry = λ _. is ∙ sym old;
+              once = λ z. absurd (omega (arith, t));
               bound = v .used;
               below = le-refl _;
               held = subst (λ (x : Entry). Held v x (v .used)) (ap (λ (q : ℕ). sent w q .entry) (sym b) ∙ sym is) (held-new c n x (omega (arith, g .below)) (ap (λ (q : ℕ). sent w q .kind) (sym b) ∙ g .is));
               later = λ x i z. absurd (none-later x i z);
             };
           })
-        where
-          none-later : (x : Tracked) → In x all → place < x .begin → ⊥
-          none-later x i z = at (in-append (map tr l) new i)
-            where
-              at : In x (map tr l) ⊎ In x new → ⊥
-              at (inl j) = let r = in-map tr l j in omega (arith, s .fits (r .of) (r .member) .began, tracked-begin v place done (r .of), ap (λ (t : Tracked). t .begin) (r .is))
-              at (inr j) = omega (arith, f .fresh x j .begin)
+      go h (exchanged r p q y b k g x) =
+          let (t, z) = was-reading (a .phase h) y in
+          let is : client v done .entry ≡ client v (o .client) .entry = ap (λ (d : ℕ). client v d .entry) p in
+          rw (tracked-ends v place done o h p, ap (λ (x : Phase). sentWrite x (o .write)) k, ap (λ (x : Phase). not (isIdle x)) k)
+          (record {
+            low = a .low;
+            kind = a .kind;
+            read = omega (arith, a .read, grown c);
+            began = omega (arith, a .began);
+            ends = omega arith;
+            spans = λ _. a .began;
+            wrote = λ z. wrote-on c n (a .wrote z);
+            phase = λ z. clash z refl;
+            alike = λ z. clash z refl;
+            going = λ z. clash z refl;
+            given = λ z. given-on o a (record { write = z .write; sent = z .sent });
+            done = λ _. record {
+              entry = λ j. absurd (omega (arith, j, z));
+              once = λ _. exchanged-new c n x _ (sym (a .alike h) ∙ b) t is;
+              bound = v .used;
+              below = le-refl _;
+              held = subst (λ (e : Entry). Held v e (v .used)) (sym is) (held-once c n x);
+              later = λ x i z. absurd (none-later x i z);
+            };
+          })
       go h (gave-up p q k g) =
           rw (tracked-stays v place done o h p, ap (λ (x : Phase). sentWrite x (o .write)) k, ap (λ (x : Phase). not (isIdle x)) k)
           (record {
@@ -307,6 +334,7 @@ module _ {w v : World} {place done starter kind : ℕ} {l new : List Tracked} (n
       go (began e p u y k j g) = (y, k, j)
       go (wrote r p q u y k j z x) = absurd (q refl)
       go (ended r p q y k j g x) = absurd (q refl)
+      go (exchanged r p q y b k g x) = absurd (q refl)
       go (gave-up p q i g) = absurd (q refl)
 
   fits-new : (o : Tracked) → In o new → Fits v (place + 1) all o
@@ -355,6 +383,7 @@ module _ {w v : World} {place done starter kind : ℕ} {l new : List Tracked} (n
           let e : tr o .write ≡ v .used = tracked-write v place done o h ∙ ap (λ (x : Phase). sentWrite x (o .write)) b in
           raised (rw e (given-new c n x (a .alike h ∙ k) .0))
       go h (ended r p q y b j g x) = kept (tracked-write v place done o h ∙ ap (λ (x : Phase). sentWrite x (o .write)) b)
+      go h (exchanged r p q y z b g x) = kept (tracked-write v place done o h ∙ ap (λ (x : Phase). sentWrite x (o .write)) b)
       go h (gave-up p q b g) = kept (tracked-write v place done o h ∙ ap (λ (x : Phase). sentWrite x (o .write)) b)
 
   order-old : (a b : Tracked) → In a l → In b l → Earlier w a b → Earlier v (tr a) (tr b)
@@ -424,6 +453,7 @@ module _ {w v : World} {place done starter kind : ℕ} {l new : List Tracked} (n
           record { of = a .of; member = in-right (map tr l) new (a .member); has = (z .client ∙ e, z .active) }
       go (wrote r p q u y b j z i) = found (stays-open x k) (s .opener x h (ap isIdle y))
       go (ended r p q y b j g i) = clash (ap isIdle b) k
+      go (exchanged r p q y z b g i) = clash (ap isIdle b) k
       go (gave-up p q b g) = clash (ap isIdle b) k
 
   writes-on : (j : ℕ) → 1 ≤ j → (o : Tracked) → In o l → o .write ≡ j → tr o .write ≡ j
@@ -444,6 +474,7 @@ module _ {w v : World} {place done starter kind : ℕ} {l new : List Tracked} (n
           reads (reading p z) = omega arith
           reads (writing p z x) = let n : _≡_ {A = ℕ} 0 1 = cc in omega arith
       go z (ended r p q y k b g x) = still z (ap (λ (x : Phase). sentWrite x (o .write)) k)
+      go z (exchanged r p q y b k g x) = still z (ap (λ (x : Phase). sentWrite x (o .write)) k)
       go z (gave-up p q k g) = still z (ap (λ (x : Phase). sentWrite x (o .write)) k)
 
   writer-on : (j : ℕ) → 1 ≤ j → j ≤ v .used → sent v j .kind ≡ WRITE → Some all (λ o. o .write ≡ j)

@@ -9,7 +9,7 @@ use Rattle.protocol.specs.Sizes.{quorum, size, sized, writeSize, viewWith}
 use Rattle.protocol.specs.Entries.{entry, empty, below, larger, same, entryFits}
 use Rattle.protocol.specs.Servers.{READ, WRITE, END, START, ANSWER, Reply, keeping, withoutKey, joining, serve}
 use Rattle.protocol.specs.Readable.{clientRange}
-use Rattle.protocol.specs.Clients.{NONE, WRITES, number, begin, nextCount, toWrite, givenBy, countLeft, close, call, advance}
+use Rattle.protocol.specs.Clients.{NONE, WRITES, READS, number, begin, nextCount, toWrite, givenBy, countLeft, close, call, advance}
 use Rattle.values.specs.Bits.{bitIn}
 use Rattle.values.specs.Tallies.{firstAnswer, closesAt}
 use Rattle.checked.specs.Ranges.{numberFits, serverInRange, messageInRange, clientInRange, endFits, administratorInRange}
@@ -60,11 +60,11 @@ read-taken : takeRule (answer 1 1 1 empty) 1 ≡ done (answer 1 1 1 empty)
 unfolding answer takeRule guard messageInRange entryFits same numberFits
 read-taken = refl
 
-read-closes : closesAt (firstAnswer (answer 1 1 1 empty)) (writeSize (viewWith 1 0)) ≡ some empty
+read-closes : closesAt (firstAnswer (answer 1 1 1 empty)) (writeSize (viewWith 1 0)) ≡ some (record { entry = empty; one = true })
 unfolding answer closesAt firstAnswer bitIn bitOf holds countTo writeSize quorum size
 read-closes = refl
 
-write-next : closeRule (client (Reading (number 1)) WRITES (entry 0 0 7) 0) 1 empty 3
+write-next : closeRule (client (Reading (number 1)) WRITES (entry 0 0 7) 0) 1 empty true 3
     ≡ done (record { client = client (Writing (number 3)) WRITES (entry 1 1 7) 1; complete = false })
 unfolding client closeRule guard clientInRange clientRange entryFits numberFits close countLeft nextCount toWrite givenBy
 write-next = refl
@@ -73,10 +73,21 @@ write-served : serveRule (server 1 1 empty) (request WRITE 1 0 (entry 1 1 7)) fa
 unfolding server request answers serveRule guard serverInRange messageInRange entryFits same bitOf serve holds keeping larger below
 write-served = refl
 
-write-complete : closeRule (client (Writing (number 3)) WRITES (entry 1 1 7) 1) 1 (entry 1 1 7) 5
+write-complete : closeRule (client (Writing (number 3)) WRITES (entry 1 1 7) 1) 1 (entry 1 1 7) false 5
     ≡ done (record { client = client Idle WRITES (entry 1 1 7) 1; complete = true })
 unfolding client closeRule guard clientInRange clientRange entryFits numberFits close
 write-complete = refl
+
+-- a read whose answers carry one entry is complete, and needs no number; one whose answers differ writes back
+read-once : closeRule (client (Reading (number 1)) READS empty 0) 2 (entry 1 1 7) true 0
+    ≡ done (record { client = client Idle READS (entry 1 1 7) 0; complete = true })
+unfolding client closeRule guard clientInRange clientRange entryFits numberFits close
+read-once = refl
+
+read-back : closeRule (client (Reading (number 1)) READS empty 0) 2 (entry 1 1 7) false 3
+    ≡ done (record { client = client (Writing (number 3)) READS (entry 1 1 7) 0; complete = false })
+unfolding client closeRule guard clientInRange clientRange entryFits numberFits close countLeft nextCount toWrite givenBy
+read-back = refl
 
 -- view 2 is called
 view-called : callRule (administrator 1) (viewWith 3 0) 5 ≡ done (ending 1 5)

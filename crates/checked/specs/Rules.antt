@@ -1,13 +1,13 @@
 -- "One machine's rule: 3, record out of range; then as its step." Assumes nothing.
 use Prim.Native.Nat.{ℕ}
-use mathlib.Core.Bool.{Bool, true, not, _&&_}
+use mathlib.Core.Bool.{Bool, true, false, not, _&&_, _||_}
 use lib.Dec.{eqb, leb}
 use Rattle.checked.specs.Types.{Entry, View, Server, Phase, Idle, Reading, Writing, Client, Administrator, Message}
 use Rattle.protocol.specs.Tools.{within, Result, done, guard}
 use Rattle.protocol.specs.Sizes.{clients, views, messages}
 use Rattle.protocol.specs.Entries.{entryFits}
 use Rattle.protocol.specs.Servers.{ANSWER, Reply, serve, mayAnswer}
-use Rattle.protocol.specs.Clients.{WRITES, READS, begin, giveUp, Close, close, isEnding, call, advance}
+use Rattle.protocol.specs.Clients.{WRITES, READS, begin, giveUp, Close, once, close, isEnding, call, advance}
 use Rattle.checked.specs.Ranges.{numberFits, serverInRange, messageInRange, clientInRange, administratorInRange}
 
 -- a message reaches a server
@@ -35,16 +35,19 @@ takeRule m r =
     guard (messageInRange m && leb r messages) 3
     (guard (eqb (m .kind) ANSWER) 5 (guard (not (m .taken) && eqb (m .request .0) r) 7 (done m)))
 
--- a number is needed where the close sends
-abbrev pub nextFits : Phase → ℕ → Bool
-nextFits Idle n = true
-nextFits (Reading r) n = numberFits n
-nextFits (Writing r) n = true
+abbrev pub isReading : Phase → Bool
+isReading Idle = false
+isReading (Reading r) = true
+isReading (Writing r) = false
 
--- a client's phase closes
-unfoldable pub closeRule : Client → ℕ → Entry → ℕ → Result Close
-closeRule c who e n =
-    guard (clientInRange c && (within 1 clients who && (entryFits e && nextFits (c .phase) n))) 3 (close c who e n)
+-- a number is needed where the close sends
+abbrev pub nextFits : Client → Bool → ℕ → Bool
+nextFits c one n = (not (isReading (c .phase)) || once c one) || numberFits n
+
+-- a client's phase closes; one: all answers of the chosen view carry the entry e
+unfoldable pub closeRule : Client → ℕ → Entry → Bool → ℕ → Result Close
+closeRule c who e one n =
+    guard (clientInRange c && (within 1 clients who && (entryFits e && nextFits c one n))) 3 (close c who e one n)
 
 -- the administrator calls a new view
 unfoldable pub callRule : Administrator → View → ℕ → Result Administrator

@@ -32,7 +32,7 @@ ghost use mathlib.Core.Path.{_≡_};
 ghost use Rattle.protocol.specs.Tools.{numberOf};
 ghost use Rattle.protocol.specs.Servers.{served};
 ghost use Rattle.protocol.specs.Clients.{begun, givenUp, closing, called};
-ghost use Rattle.checked.specs.Rules.{serveRule, falseAnswerRule, writeRule, readRule, giveUpRule, takeRule, nextFits, closeRule, callRule, advanceRule};
+ghost use Rattle.checked.specs.Rules.{serveRule, falseAnswerRule, writeRule, readRule, giveUpRule, takeRule, isReading, nextFits, closeRule, callRule, advanceRule};
 
 // A message reaches a server: 3, 5, 6, 7.
 pub fn serve_rule(a: Server, m: Message, member: bool) -> Served
@@ -134,22 +134,38 @@ pub fn take_rule(m: Message, r: MessageNumber) -> u8
     0
 }
 
-// The number of the message that closing a phase sends, where it sends one.
-fn next_fits(p: Phase, n: MessageNumber) -> bool
-    ensures { λ r. ⌜ r ≡ nextFits p (n .0) ⌝ }
+// Whether a phase is that of READ.
+fn is_reading(p: Phase) -> bool
+    ensures { λ r. ⌜ r ≡ isReading p ⌝ }
 {
     match p {
-        Phase::Idle => true,
-        Phase::Reading(_) => ranges::number_fits(n),
-        Phase::Writing(_) => true,
+        Phase::Idle => false,
+        Phase::Reading(_) => true,
+        Phase::Writing(_) => false,
     }
 }
 
-// A phase of client number who closes with the entry e; the WRITE that closing READ sends has the number n: 3, 7, 11.
-pub fn close_rule(c: Client, who: u8, e: Entry, n: MessageNumber) -> Closing
-    ensures { λ r. ⌜ closing r ≡ closeRule c who e (n .0) ⌝ }
+// The number of the message that closing a phase sends, where it sends one.
+fn next_fits(c: Client, one: bool, n: MessageNumber) -> bool
+    ensures { λ r. ⌜ r ≡ nextFits c one (n .0) ⌝ }
 {
     let phase = c.phase;
+    let reading = is_reading(phase);
+    if !reading {
+        return true;
+    }
+    let ends = clients::once(c, one);
+    if ends {
+        return true;
+    }
+    ranges::number_fits(n)
+}
+
+// A phase of client number who closes with the entry e; one says whether all answers of the chosen view carry it, and the WRITE
+// that closing READ sends has the number n: 3, 7, 11.
+pub fn close_rule(c: Client, who: u8, e: Entry, one: bool, n: MessageNumber) -> Closing
+    ensures { λ r. ⌜ closing r ≡ closeRule c who e one (n .0) ⌝ }
+{
     let client_ok = ranges::client_in_range(c);
     if !client_ok {
         return Closing::CloseRefused(UNFIT);
@@ -164,11 +180,11 @@ pub fn close_rule(c: Client, who: u8, e: Entry, n: MessageNumber) -> Closing
     if !entry_ok {
         return Closing::CloseRefused(UNFIT);
     }
-    let number_ok = next_fits(phase, n);
+    let number_ok = next_fits(c, one, n);
     if !number_ok {
         return Closing::CloseRefused(UNFIT);
     }
-    clients::close(c, who, e, n)
+    clients::close(c, who, e, one, n)
 }
 
 // The administrator calls a new view with END of the newest, number n: 3, 4, 8.

@@ -134,9 +134,9 @@ pub take-numbers : (m : Message) (r : ℕ) → Refuses (3 ∷ 5 ∷ 7 ∷ []) (t
 unfolding takeRule
 take-numbers m r = refuses-guard _ _ _ _ refl (refuses-guard _ _ _ _ refl (refuses-guard _ _ _ _ refl (refuses-done _ _)))
 
-pub close-numbers : (c : Client) (who : ℕ) (e : Entry) (n : ℕ) → Refuses (3 ∷ 7 ∷ 11 ∷ []) (closeRule c who e n)
+pub close-numbers : (c : Client) (who : ℕ) (e : Entry) (one : Bool) (n : ℕ) → Refuses (3 ∷ 7 ∷ 11 ∷ []) (closeRule c who e one n)
 unfolding closeRule
-close-numbers c who e n = refuses-guard _ _ _ _ refl (refuses-more (7 ∷ 11 ∷ []) _ _ refl (close-refuses _ _ _ _))
+close-numbers c who e one n = refuses-guard _ _ _ _ refl (refuses-more (7 ∷ 11 ∷ []) _ _ refl (close-refuses _ _ _ _ _))
 
 pub call-numbers : (a : Administrator) (v : View) (n : ℕ) → Refuses (3 ∷ 4 ∷ 8 ∷ []) (callRule a v n)
 unfolding callRule
@@ -170,28 +170,29 @@ server-call-numbers s b =
     (refuses-guard _ _ _ _ refl
     (refuses-guard _ _ _ _ refl (refuses-guard _ _ _ _ refl (refuses-guard _ _ _ _ refl (server-rule-refuses _ _ _ _ _)))))
 
-operation-rule-refuses : (c : Client) (rule who n : ℕ) (e : Entry) → Refuses (1 ∷ 3 ∷ 4 ∷ 7 ∷ 11 ∷ 12 ∷ []) (operationRule c rule who n e)
+operation-rule-refuses : (c : Client) (rule who n : ℕ) (e : Entry) (one : Bool) → Refuses (1 ∷ 3 ∷ 4 ∷ 7 ∷ 11 ∷ 12 ∷ []) (operationRule c rule who n e one)
 unfolding operationRule
-operation-rule-refuses c rule who n e =
-    refuses-if _ (eqb rule 4) _ _ (refuses-more (3 ∷ 7 ∷ 11 ∷ []) _ _ refl (close-numbers _ _ _ _))
+operation-rule-refuses c rule who n e one =
+    refuses-if _ (eqb rule 4) _ _ (refuses-more (3 ∷ 7 ∷ 11 ∷ []) _ _ refl (close-numbers _ _ _ _ _))
     (refuses-guard _ _ _ _ refl
     (refuses-guard _ _ _ _ refl
     (refuses-if _ (eqb rule 1) _ _ (opens-refuses _ _ (refuses-more (3 ∷ 4 ∷ []) _ _ refl (write-numbers c (e .value) n)))
     (refuses-guard _ _ _ _ refl (refuses-guard _ _ _ _ refl (opens-refuses _ _ (refuses-more (3 ∷ 4 ∷ []) _ _ refl (read-numbers c n))))))))
 
-client-rule-refuses : (c : Client) (rule who n : ℕ) (e : Entry) → Refuses (1 ∷ 3 ∷ 4 ∷ 7 ∷ 11 ∷ 12 ∷ []) (clientRule c rule who n e)
+client-rule-refuses : (c : Client) (rule who n : ℕ) (e : Entry) (flag : ℕ) → Refuses (1 ∷ 3 ∷ 4 ∷ 7 ∷ 11 ∷ 12 ∷ []) (clientRule c rule who n e flag)
 unfolding clientRule droppingRule
-client-rule-refuses c rule who n e =
-    refuses-if _ (eqb rule giveUpStep) _ _
+client-rule-refuses c rule who n e flag =
+    refuses-guard _ _ _ _ refl
+    (refuses-if _ (eqb rule giveUpStep) _ _
     (refuses-guard _ _ _ _ refl
     (refuses-guard _ _ _ _ refl (refuses-guard _ _ _ _ refl (opens-refuses _ _ (refuses-more (3 ∷ 12 ∷ []) _ _ refl (give-up-numbers c))))))
-    (operation-rule-refuses c rule who n e)
+    (operation-rule-refuses c rule who n e (eqb flag 1)))
 
 pub client-call-numbers : (c b : List ℕ) → Refuses (1 ∷ 3 ∷ 4 ∷ 7 ∷ 11 ∷ 12 ∷ []) (clientCall c b)
 unfolding clientCall
 client-call-numbers c b =
     refuses-guard _ _ _ _ refl
-    (refuses-guard _ _ _ _ refl (refuses-guard _ _ _ _ refl (refuses-guard _ _ _ _ refl (client-rule-refuses _ _ _ _ _))))
+    (refuses-guard _ _ _ _ refl (refuses-guard _ _ _ _ refl (refuses-guard _ _ _ _ refl (client-rule-refuses _ _ _ _ _ _))))
 
 administrator-rule-refuses : (a : Administrator) (rule n : ℕ) (v : View) → Refuses (1 ∷ 3 ∷ 4 ∷ 7 ∷ 8 ∷ []) (administratorRule a rule n v)
 unfolding administratorRule

@@ -154,7 +154,7 @@ number-put l mid out at next n then h p q e = (
 pub letter-put : (l out : List ℕ) (at x y : ℕ) → x ≡ y → out ≡ put l at (x ∷ 32 ∷ []) → out ≡ put l at (y ∷ 32 ∷ [])
 letter-put l out at x y e d = d ∙ ap (λ (k : ℕ). put l at (k ∷ 32 ∷ [])) e
 
--- ---- the lines of the worked session: "1 W 1 1 7", "2 R 1 1 7", "done 10 0"
+-- ---- the lines of the worked session: "1 W 1 1 7", "2 R 1 1 7", "done 8 5"
 
 abbrev idle : ℕ → Client
 idle kind = record { phase = Idle; kind = kind; entry = entry 1 1 7; given = record { 0 = 0 } }
@@ -162,6 +162,6 @@ idle kind = record { phase = Idle; kind = kind; entry = entry 1 1 7; given = rec
 pub worked :
     (operationLine 1 (idle WRITES) ≡ 49 ∷ 32 ∷ 87 ∷ 32 ∷ 49 ∷ 32 ∷ 49 ∷ 32 ∷ 55 ∷ 10 ∷ [])
     × (operationLine 2 (idle READS) ≡ 50 ∷ 32 ∷ 82 ∷ 32 ∷ 49 ∷ 32 ∷ 49 ∷ 32 ∷ 55 ∷ 10 ∷ [])
-    × (doneLine 10 0 ≡ 100 ∷ 111 ∷ 110 ∷ 101 ∷ 32 ∷ 49 ∷ 48 ∷ 32 ∷ 48 ∷ 10 ∷ [])
+    × (doneLine 8 5 ≡ 100 ∷ 111 ∷ 110 ∷ 101 ∷ 32 ∷ 56 ∷ 32 ∷ 53 ∷ 10 ∷ [])
 unfolding operationLine doneLine numberThen digits
 worked = (refl, refl, refl)

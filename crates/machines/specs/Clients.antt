@@ -1,24 +1,14 @@
 -- The parts of a client's and the administrator's rule. Assumes nothing.
 use Prim.Native.Nat.{ℕ, suc, _+_, _≤_, _<_}
 use native.Mathlib.Omega.{arith}
-use mathlib.Core.Bool.{true, false}
+use mathlib.Core.Bool.{true}
 use mathlib.Core.Path.{_≡_, refl}
 use lib.Dec.{ltb}
 use borrow.Author.Tests.{lt-ltb, leb-true, eq-eqb}
-use Rattle.machines.specs.Types.{Entry, Idle, Writing, Client, Administrator}
+use Rattle.machines.specs.Types.{Entry, Client, Administrator}
 use Rattle.protocol.specs.Tools.{Result, done, guard}
 use Rattle.protocol.specs.Sizes.{views, lastCount}
-use Rattle.protocol.specs.Clients.{WRITES, number, nextCount, toWrite, givenBy, countLeft, Close, advance}
-
--- READ closes, with the WRITE number n next
-abbrev pub closeRead : Client → ℕ → Entry → ℕ → Result Close
-closeRead c who e n =
-    guard (countLeft c e) 11
-    (done (record { client = record { phase = Writing (number n); kind = c .kind; entry = toWrite c who e; given = givenBy c e }; complete = false }))
-
--- WRITE closes
-abbrev pub closeWrite : Client → Result Close
-closeWrite c = done (record { client = record { phase = Idle; kind = c .kind; entry = c .entry; given = c .given }; complete = true })
+use Rattle.protocol.specs.Clients.{WRITES, nextCount, countLeft, advance}
 
 -- the count that a write of its own needs is left
 pub count-least : (c : Client) (e : Entry) → countLeft c e ≡ true → c .kind ≡ WRITES → nextCount c e ≤ lastCount

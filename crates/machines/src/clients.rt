@@ -9,6 +9,7 @@ use protocol::Phase;
 use protocol::StampCount;
 use protocol::View;
 use protocol::kinds::NONE;
+use protocol::kinds::READS;
 use protocol::kinds::WRITES;
 use protocol::limits::LAST_COUNT;
 use protocol::refusals::IDLE;
@@ -18,8 +19,8 @@ ghost use mathlib.Core.Path.{_≡_};
 ghost use mathlib.Core.Bool.{true};
 ghost use Prim.Native.Nat.{_+_, _≤_};
 ghost use Rattle.protocol.specs.Sizes.{lastCount};
-ghost use Rattle.machines.specs.Clients.{closeRead, closeWrite};
-ghost use Rattle.protocol.specs.Clients.{isIdle, requestOf, begin, begun, giveUp, givenUp, closeSize, nextCount, toWrite, givenBy, countLeft, close, closing};
+ghost use Rattle.protocol.specs.Tools.{if, done};
+ghost use Rattle.protocol.specs.Clients.{isIdle, requestOf, begin, begun, giveUp, givenUp, closeSize, nextCount, toWrite, givenBy, countLeft, writeNext, completeWith, once as onceOf, close, closing};
 
 // Whether a phase is idle.
 pub fn is_idle(p: Phase) -> bool
@@ -151,9 +152,9 @@ fn given_by(c: Client, e: Entry) -> StampCount
     next_count(c, e)
 }
 
-// READ closes with the entry e: the WRITE, number n, is next. 11, the closing write would need a count over 4,294,967,295.
-fn close_read(c: Client, who: u8, e: Entry, n: MessageNumber) -> Closing
-    ensures { λ r. ⌜ closing r ≡ closeRead c who e (n .0) ⌝ }
+// READ closed with the entry e: the WRITE, number n, is next. 11, the closing write would need a count over 4,294,967,295.
+fn write_next(c: Client, who: u8, e: Entry, n: MessageNumber) -> Closing
+    ensures { λ r. ⌜ closing r ≡ writeNext c who e (n .0) ⌝ }
 {
     let left = count_left(c, e);
     if !left {
@@ -169,28 +170,50 @@ fn close_read(c: Client, who: u8, e: Entry, n: MessageNumber) -> Closing
     })
 }
 
-// WRITE closes: the operation is complete, and the entry is its result.
-fn close_write(c: Client) -> Closing
-    ensures { λ r. ⌜ closing r ≡ closeWrite c ⌝ }
+// The operation is complete, and e is its result.
+fn complete(c: Client, e: Entry) -> Closing
+    ensures { λ r. ⌜ closing r ≡ done (completeWith c e) ⌝ }
 {
-    let entry = c.entry;
     let given = c.given;
     Closing::Completed(Client {
         phase: Phase::Idle,
         kind: c.kind,
-        entry: entry,
+        entry: e,
         given: given,
     })
 }
 
-// A phase of client number who closes with the entry e. 7, no phase is open; 11.
-pub fn close(c: Client, who: u8, e: Entry, n: MessageNumber) -> Closing
-    ensures { λ r. ⌜ closing r ≡ close c who e (n .0) ⌝ }
+// Whether a READ phase that closes completes its operation: it is a read, and all answers carry one entry.
+pub fn once(c: Client, one: bool) -> bool
+    ensures { λ r. ⌜ r ≡ onceOf c one ⌝ }
+{
+    if c.kind != READS {
+        return false;
+    }
+    one
+}
+
+// READ closes with the entry e: a read whose answers all carry it is complete and sends nothing; else the WRITE is next. 11.
+fn close_read(c: Client, who: u8, e: Entry, one: bool, n: MessageNumber) -> Closing
+    ensures { λ r. ⌜ closing r ≡ if (onceOf c one) (done (completeWith c e)) (writeNext c who e (n .0)) ⌝ }
+{
+    let ends = once(c, one);
+    if ends {
+        return complete(c, e);
+    }
+    write_next(c, who, e, n)
+}
+
+// A phase of client number who closes with the entry e; one says whether all answers of the chosen view carry it. 7, no phase
+// is open; 11.
+pub fn close(c: Client, who: u8, e: Entry, one: bool, n: MessageNumber) -> Closing
+    ensures { λ r. ⌜ closing r ≡ close c who e one (n .0) ⌝ }
 {
     let phase = c.phase;
+    let own = c.entry;
     match phase {
         Phase::Idle => Closing::CloseRefused(7),
-        Phase::Reading(_) => close_read(c, who, e, n),
-        Phase::Writing(_) => close_write(c),
+        Phase::Reading(_) => close_read(c, who, e, one, n),
+        Phase::Writing(_) => complete(c, own),
     }
 }

@@ -79,9 +79,9 @@ deliver-tells : (w : World) (s n : ℕ) → Tells (deliver w s n)
 unfolding deliver
 deliver-tells w s n = tells-guard _ _ _ (λ e. tells-then (serve (server w s) (message w n) (member w (message w n .view .0) s)) _ (λ r. answers-tells (r .answer) w s n (r .server)))
 
-closes-tells : (w : World) (k c : ℕ) (e : Entry) → Told c → Tells (closes w k c e)
+closes-tells : (w : World) (k c : ℕ) (e : Entry) (one : Bool) → Told c → Tells (closes w k c e one)
 unfolding closes
-closes-tells w k c e t = tells-then (close (client w c) c e (nextNumber w)) _ (λ x. tells-if (x .complete) _ _ (λ q. tells-done _ _ t) (λ q. tells-room _ _))
+closes-tells w k c e one t = tells-then (close (client w c) c e one (nextNumber w)) _ (λ x. tells-if (x .complete) _ _ (λ q. tells-done _ _ t) (λ q. tells-room _ _))
 
 starts-tells : (w : World) (k : ℕ) (e : Entry) → Tells (starts w k e)
 unfolding starts
@@ -93,7 +93,7 @@ takes-tells w k r t f =
     let e : Entry = chosen (shown w t (takenWith w k)) in
     tells-if (eqb (message w r .kind) END) _ _
     (λ i. tells-either (eqb t (newest w) && enough w t (takenWith w k) (writeSize (view w t))) (starts-tells w k e) (tells-moved (link w k)))
-    (λ i. tells-either (enough w t (takenWith w k) (closeSize (client w (message w r .sender) .phase) (view w t))) (closes-tells w k (message w r .sender) e (f i)) (tells-moved (link w k)))
+    (λ i. tells-either (enough w t (takenWith w k) (closeSize (client w (message w r .sender) .phase) (view w t))) (closes-tells w k (message w r .sender) e _ (f i)) (tells-moved (link w k)))
 
 -- a request that is no END is a client's
 asker : {w : World} → Formed w → (r : ℕ) → present w r ≡ true → isRequest (message w r .kind) ≡ true → eqb (message w r .kind) END ≡ false → Told (message w r .sender)

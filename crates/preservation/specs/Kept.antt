@@ -28,9 +28,9 @@ use Rattle.protocol.specs.Tools.{if, within, all, holds, bitOf, Result, refused
 use Rattle.protocol.specs.Sizes.{clients, servers, views, messages, lastCount, sized, writeSize}
 use Rattle.protocol.specs.Entries.{entry, empty, countOf, writerOf, larger, chosen, same, entryFits}
 use Rattle.protocol.specs.Servers.{READ, WRITE, END, START, ANSWER, isRequest, Reply, keeping, withoutKey, joining, gathering, mayAnswer}
-use Rattle.protocol.specs.Clients.{NONE, WRITES, READS, number, begin, closeSize, nextCount, toWrite, givenBy, countLeft, giveUp, Close, closeBy, close, isEnding, endOf, requestOf, call, advance}
+use Rattle.protocol.specs.Clients.{NONE, WRITES, READS, number, begin, closeSize, nextCount, toWrite, givenBy, countLeft, giveUp, Close, writeNext, completeWith, once, closeBy, close, isEnding, endOf, requestOf, call, advance}
 use Rattle.protocol.specs.Worlds.{World, view, server, client, message, newest, member, present, room, withServer, withClient, withView, withMessage, withAdministrator, send, nextNumber}
-use Rattle.protocol.specs.Chains.{chain, tagged, enough, shown}
+use Rattle.protocol.specs.Chains.{chain, tagged, enough, shown, agreed}
 use Rattle.protocol.specs.Steps.{After, moved, request, answer, answers, begins, deliver, link, open?, takenWith, closes, starts, takes, take, fault, source?, lie, newView, givesUp, writeStep, readStep, deliverStep, faultStep, falseStep, giveUpStep, rowOf, viewAsked, step}
 use Rattle.protocol.specs.Readable.{isSent, serverFits, phaseFits, clientRange, clientFits, senderFits, tagRule, requestFits, nextFits, entryZero, sentFits, takenAnswer, wellFormed}
 use Rattle.protocol.specs.Laws.Tests.{and-left, and-right, and-both, clash, within-true, went, is-within}
@@ -450,9 +450,9 @@ module _ {w : World} (h : Formed w) {k r : ℕ} (u : Untaken w k r) where
   chosen-taken t = chosen-fits _ (shown-fits h t (takenWith w k) taken-present)
 
   -- a phase of client c closes
-  closes-kept : (c : ℕ) → IsClient c → (t : ℕ) (a : After) → closes w k c (chosen (shown w t (takenWith w k))) ≡ done a → Formed (a .world)
+  closes-kept : (c : ℕ) → IsClient c → (t : ℕ) (one : Bool) (a : After) → closes w k c (chosen (shown w t (takenWith w k))) one ≡ done a → Formed (a .world)
   unfolding closes close clientRange
-  closes-kept c i t a e = let g = went _ _ _ e in go (client w c .phase) refl (g .value) (g .is) (g .on)
+  closes-kept c i t one a e = let g = went _ _ _ e in go (client w c .phase) refl (g .value) (g .is) (g .on)
     where
       e′ : Entry
       e′ = chosen (shown w t (takenWith w k))
@@ -460,12 +460,25 @@ module _ {w : World} (h : Formed w) {k r : ℕ} (u : Untaken w k r) where
       o : Client-of w c
       o = client-of h c i
 
-      go : (p : Phase) → client w c .phase ≡ p → (x : Close) → closeBy p (client w c) c e′ (nextNumber w) ≡ done x
+      -- its operation is complete, with the entry y
+      ends : {x : Close} {y : Entry} → x ≡ record { client = record { phase = Idle; kind = client w c .kind; entry = y; given = client w c .given }; complete = true } → entryFits y ≡ true
+          → within WRITES READS (client w c .kind) ≡ true
           → if (x .complete) (done (record { world = withClient (link w k) c (x .client); completed = c }))
           (guard (room w) 10 (moved (send (withClient (link w k) c (x .client)) (request WRITE c 0 (x .client .entry))))) ≡ done a
           → Formed (a .world)
-      go Idle p x f e = refused-done f
-      go (Reading q) p x f e =
+      ends {x} d f r e =
+          subst (λ (z : After). Formed (z .world)) (done-is (rw (ap (λ (z : Close). z .complete) d) at e))
+          (formed-client formed-linked c (i .low) (i .high) (x .client)
+          (ended-fits (link w k) c (x .client) (ap (λ (z : Close). z .client .phase) d) (ap (λ (z : Close). within WRITES READS (z .client .kind)) d ∙ r)
+          (and-both _ _ (ap (λ (z : Close). entryFits (z .client .entry)) d ∙ f) (ap (λ (z : Close). ltb (z .client .given .0) (2 ^ 32)) d ∙ o .given))))
+
+      -- its WRITE is sent
+      writes : {q : MessageNumber} → client w c .phase ≡ Reading q → (x : Close)
+          → writeNext (client w c) c e′ (nextNumber w) ≡ done x
+          → if (x .complete) (done (record { world = withClient (link w k) c (x .client); completed = c }))
+          (guard (room w) 10 (moved (send (withClient (link w k) c (x .client)) (request WRITE c 0 (x .client .entry))))) ≡ done a
+          → Formed (a .world)
+      writes p x f e =
           let (n, f1) = passed _ _ _ _ f in
           let d = is-done f1 in
           let (l, e1) = passed _ _ _ _ (rw (ap (λ (z : Close). z .complete) d) at e) in
@@ -474,12 +487,20 @@ module _ {w : World} (h : Formed w) {k r : ℕ} (u : Untaken w k r) where
           (ap (λ (z : Close). within WRITES READS (z .client .kind)) d ∙ and-left (within WRITES READS (client w c .kind)) _ (rw p at (o .phase)))
           (ap (λ (z : Close). entryFits (z .client .entry)) d ∙ toWrite-fits (client w c) c e′ i (o .entry) (chosen-taken t) n)
           (ap (λ (z : Close). ltb (z .client .given .0) (2 ^ 32)) d ∙ givenBy-fits (client w c) e′ (o .given) n))
-      go (Writing q) p x f e =
-          let d = is-done f in
-          subst (λ (z : After). Formed (z .world)) (done-is (rw (ap (λ (z : Close). z .complete) d) at e))
-          (formed-client formed-linked c (i .low) (i .high) (x .client)
-          (ended-fits (link w k) c (x .client) (ap (λ (z : Close). z .client .phase) d) (ap (λ (z : Close). within WRITES READS (z .client .kind)) d ∙ and-left (within WRITES READS (client w c .kind)) _ (rw p at (o .phase)))
-          (and-both _ _ (ap (λ (z : Close). entryFits (z .client .entry)) d ∙ o .entry) (ap (λ (z : Close). ltb (z .client .given .0) (2 ^ 32)) d ∙ o .given))))
+
+      go : (p : Phase) → client w c .phase ≡ p → (x : Close) → closeBy p (client w c) c e′ one (nextNumber w) ≡ done x
+          → if (x .complete) (done (record { world = withClient (link w k) c (x .client); completed = c }))
+          (guard (room w) 10 (moved (send (withClient (link w k) c (x .client)) (request WRITE c 0 (x .client .entry))))) ≡ done a
+          → Formed (a .world)
+      go Idle p x f e = refused-done f
+      go (Reading q) p x f e = either (once (client w c) one) f
+        where
+          either : (b : Bool)
+              → if b (done (completeWith (client w c) e′)) (writeNext (client w c) c e′ (nextNumber w)) ≡ done x
+              → Formed (a .world)
+          either true f = ends (is-done f) (chosen-taken t) (and-left (within WRITES READS (client w c .kind)) _ (rw p at (o .phase))) e
+          either false f = writes p x f e
+      go (Writing q) p x f e = ends (is-done f) (o .entry) (and-left (within WRITES READS (client w c .kind)) _ (rw p at (o .phase))) e
 
   -- the END of the newest view closes
   starts-kept : (q : MessageNumber) → w .administrator .ending ≡ EndSent q → (t : ℕ) (a : After) → starts w k (chosen (shown w t (takenWith w k))) ≡ done a → Formed (a .world)
@@ -515,13 +536,13 @@ module _ {w : World} (h : Formed w) {k r : ℕ} (u : Untaken w k r) where
           below : {x : ℕ} → (x ≡ END → ⊥) → x ≤ END → x ≤ WRITE
           below f l = omega arith
 
-      closing : IsClient (message w r .sender) → (b : Bool) → if b (closes w k (message w r .sender) (chosen (shown w t (takenWith w k)))) (moved (link w k)) ≡ done a → Formed (a .world)
-      closing i true e = closes-kept (message w r .sender) i t a e
+      closing : IsClient (message w r .sender) → (b : Bool) → if b (closes w k (message w r .sender) (chosen (shown w t (takenWith w k))) (agreed w t (takenWith w k))) (moved (link w k)) ≡ done a → Formed (a .world)
+      closing i true e = closes-kept (message w r .sender) i t _ a e
       closing i false e = stays e
 
       go : (b : Bool) → eqb (message w r .kind) END ≡ b → if b (eqb (endOf (w .administrator .ending)) r) (eqb (requestOf (client w (message w r .sender) .phase)) r) ≡ true
           → if b (if (eqb t (newest w) && enough w t (takenWith w k) (writeSize (view w t))) (starts w k (chosen (shown w t (takenWith w k)))) (moved (link w k)))
-          (if (enough w t (takenWith w k) (closeSize (client w (message w r .sender) .phase) (view w t))) (closes w k (message w r .sender) (chosen (shown w t (takenWith w k)))) (moved (link w k))) ≡ done a
+          (if (enough w t (takenWith w k) (closeSize (client w (message w r .sender) .phase) (view w t))) (closes w k (message w r .sender) (chosen (shown w t (takenWith w k))) (agreed w t (takenWith w k))) (moved (link w k))) ≡ done a
           → Formed (a .world)
       go true b o e = finishing (eqb-true _ _ o) (eqb t (newest w) && enough w t (takenWith w k) (writeSize (view w t))) e
       go false b o e = closing (who b) (enough w t (takenWith w k) (closeSize (client w (message w r .sender) .phase) (view w t))) e

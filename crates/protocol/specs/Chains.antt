@@ -4,8 +4,9 @@ use mathlib.Core.Bool.{Bool, _&&_}
 use mathlib.Core.List.{List, [], _∷_}
 use lib.Dec.{leb, eqb}
 use Rattle.protocol.specs.Types.{Entry}
-use Rattle.protocol.specs.Tools.{if, countTo, any}
+use Rattle.protocol.specs.Tools.{if, countTo, any, all}
 use Rattle.protocol.specs.Sizes.{servers, messages}
+use Rattle.protocol.specs.Entries.{chosen, same}
 use Rattle.protocol.specs.Worlds.{World, message}
 
 -- "From a request the links are followed until zero": the numbers met from n on, with the links still allowed
@@ -34,3 +35,7 @@ enough w t ks size = leb size (countTo (heard w t ks) servers)
 unfoldable pub shown : World → ℕ → List ℕ → List Entry
 shown w t [] = []
 shown w t (k ∷ ks) = if (tagged w t k) (message w k .entry ∷ shown w t ks) (shown w t ks)
+
+-- "all its taken answers of the chosen view carry one entry"
+unfoldable pub agreed : World → ℕ → List ℕ → Bool
+agreed w t ks = all (same (chosen (shown w t ks))) (shown w t ks)

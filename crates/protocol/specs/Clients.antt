@@ -3,7 +3,7 @@ use Prim.Native.Nat.{ℕ, _+_}
 use mathlib.Core.Bool.{Bool, true, false, not, _&&_, _||_}
 use mathlib.Core.Option.{Option, none, some}
 use lib.Dec.{ltb, leb, eqb}
-use Rattle.protocol.specs.Types.{StampCount, MessageNumber, Entry, View, Phase, Idle, Reading, Writing, Client, Ending, Settled, EndSent, Administrator, Begun, BeginRefused, Began, GivenUp, GiveUpRefused, GaveUp, Taken, Open, Closed, Closing, CloseRefused, WritesNext, Completed, Called, CallRefused, Calling}
+use Rattle.protocol.specs.Types.{StampCount, MessageNumber, Entry, View, Phase, Idle, Reading, Writing, Client, Ending, Settled, EndSent, Administrator, Begun, BeginRefused, Began, GivenUp, GiveUpRefused, GaveUp, Choice, Taken, Open, Closed, Closing, CloseRefused, WritesNext, Completed, Called, CallRefused, Calling}
 use Rattle.protocol.specs.Tools.{if, Result, refused, done, guard}
 use Rattle.protocol.specs.Sizes.{views, lastCount, sized, readSize, writeSize}
 use Rattle.protocol.specs.Entries.{entry, empty, countOf}
@@ -66,17 +66,29 @@ pub record Close : Type 0 where
   pub client : Client
   pub complete : Bool
 
--- READ closes: its WRITE, number n, is next. "Closing WRITE completes the operation; the entry is its result."
-abbrev pub closeBy : Phase → Client → ℕ → Entry → ℕ → Result Close
-closeBy Idle c who e n = refused 7
-closeBy (Reading r) c who e n =
+-- READ closed with the entry e: its WRITE, number n, is next
+abbrev pub writeNext : Client → ℕ → Entry → ℕ → Result Close
+writeNext c who e n =
     guard (countLeft c e) 11
     (done (record { client = record { phase = Writing (number n); kind = c .kind; entry = toWrite c who e; given = givenBy c e }; complete = false }))
-closeBy (Writing r) c who e n =
-    done (record { client = record { phase = Idle; kind = c .kind; entry = c .entry; given = c .given }; complete = true })
 
-unfoldable pub close : Client → ℕ → Entry → ℕ → Result Close
-close c who e n = closeBy (c .phase) c who e n
+-- the operation is complete, and e is its result
+abbrev pub completeWith : Client → Entry → Close
+completeWith c e = record { client = record { phase = Idle; kind = c .kind; entry = e; given = c .given }; complete = true }
+
+-- "a READ phase of a read closes and all its taken answers of the chosen view carry one entry"
+abbrev pub once : Client → Bool → Bool
+once c one = eqb (c .kind) READS && one
+
+-- "the read is complete and sends nothing"; else its WRITE is next. "Closing WRITE completes the operation; the entry is its result."
+abbrev pub closeBy : Phase → Client → ℕ → Entry → Bool → ℕ → Result Close
+closeBy Idle c who e one n = refused 7
+closeBy (Reading r) c who e one n = if (once c one) (done (completeWith c e)) (writeNext c who e n)
+closeBy (Writing r) c who e one n = done (completeWith c (c .entry))
+
+-- a phase closes with the entry e; one: all answers of the chosen view carry it
+unfoldable pub close : Client → ℕ → Entry → Bool → ℕ → Result Close
+close c who e one n = closeBy (c .phase) c who e one n
 
 -- "makes an open phase idle, with kind 0, request 0 and the empty entry"; "12, the client is idle"
 unfoldable pub giveUp : Client → Result Client
@@ -111,9 +123,9 @@ abbrev pub givenUp : GivenUp → Result Client
 givenUp (GiveUpRefused n) = refused n
 givenUp (GaveUp c) = done c
 
-abbrev pub taken : Taken → Option Entry
+abbrev pub taken : Taken → Option Choice
 taken Open = none
-taken (Closed e) = some e
+taken (Closed x) = some x
 
 abbrev pub closing : Closing → Result Close
 closing (CloseRefused n) = refused n

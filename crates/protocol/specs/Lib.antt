@@ -12,4 +12,5 @@ pub mod Consistent
 pub mod Refuted
 pub mod Runs
 pub mod Sessions
+pub mod Exchanges
 pub mod Laws

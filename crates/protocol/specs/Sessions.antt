@@ -4,15 +4,15 @@ use mathlib.Core.Bool.{Bool, true, false}
 use mathlib.Core.Option.{none, some}
 use mathlib.Core.Path.{_≡_, refl}
 use mathlib.Core.List.{List, [], _∷_, _++_}
-use Rattle.protocol.specs.Types.{Entry, Reading, Writing}
-use Rattle.protocol.specs.Tools.{countTo, allTo, any, holds, bitOf, nth, replace, done, guard}
+use Rattle.protocol.specs.Types.{Entry, Idle, Reading, Writing}
+use Rattle.protocol.specs.Tools.{countTo, allTo, any, holds, bitOf, nth, replace, done, guard, all}
 use Rattle.protocol.specs.Sizes.{viewWith, quorum, size, sized, readSize, writeSize}
-use Rattle.protocol.specs.Entries.{entry, empty, below, larger, largest, chosen}
+use Rattle.protocol.specs.Entries.{entry, empty, below, larger, largest, chosen, same}
 use Rattle.protocol.specs.Servers.{WRITE, keeping, withoutKey, joining, gathering, serve, mayAnswer}
 use Rattle.protocol.specs.Clients.{WRITES, READS, number, begin, giveUp, nextCount, toWrite, givenBy, countLeft, close, call, advance}
 use Rattle.protocol.specs.Worlds.{World, view, server, client, message, newest, member, present, room, withServer, withClient, withView, withMessage, withAdministrator, send, listTo, freshWorld, fresh, bad, premise}
-use Rattle.protocol.specs.Chains.{follow, chain, heard, enough, shown}
-use Rattle.protocol.specs.Steps.{request, rowOf, fieldsFit, begins, givesUp, deliver, link, open?, closes, starts, takes, take, fault, source?, lie, newView, perform, step}
+use Rattle.protocol.specs.Chains.{follow, chain, heard, enough, shown, agreed}
+use Rattle.protocol.specs.Steps.{rowOf, fieldsFit, begins, givesUp, deliver, link, open?, closes, starts, takes, take, fault, source?, lie, newView, perform, step}
 use Rattle.protocol.specs.Consistent.{Operation}
 use Rattle.protocol.specs.Runs.{stepOf, stepBytes, Replayed, replay, tracked, Run, run, runFrom, entryOf, operation, history}
 
@@ -53,7 +53,7 @@ begun bits f = freshWorld (viewWith bits f)
 
 -- the run; whoever unfolds it unfolds all that a step computes with
 unfoldable pub run-of : ℕ → ℕ → List (List ℕ) → Run
-unfolding freshWorld listTo runFrom run tracked stepOf stepBytes step perform guard rowOf fieldsFit begins begin givesUp giveUp deliver serve keeping withoutKey joining gathering take takes link open? closes close nextCount toWrite givenBy countLeft starts advance fault source? lie mayAnswer newView call enough heard shown chain follow below larger largest quorum size sized readSize writeSize countTo any holds bitOf nth replace view server client message member present room withServer withClient withView withMessage withAdministrator send
+unfolding freshWorld listTo runFrom run tracked stepOf stepBytes step perform guard rowOf fieldsFit begins begin givesUp giveUp deliver serve keeping withoutKey joining gathering take takes link open? closes close nextCount toWrite givenBy countLeft starts advance fault source? lie mayAnswer newView call enough heard shown agreed all same chain follow below larger largest quorum size sized readSize writeSize countTo any holds bitOf nth replace view server client message member present room withServer withClient withView withMessage withAdministrator send
 run-of bits f steps = runFrom (begun bits f) steps
 
 -- its operations
@@ -89,13 +89,13 @@ worked =
     write 1 7 ∷ deliver-to 1 1 ∷ take-one 2 ∷ deliver-to 3 1 ∷ take-one 4
     ∷ read 2 ∷ deliver-to 5 1 ∷ take-one 6 ∷ deliver-to 7 1 ∷ take-one 8 ∷ []
 
--- "done 10 0"
-worked-stop : stop-of 1 0 worked ≡ stops 10 0
+-- "The session in document 01 then ends `done 8 5` after its two operation lines."
+worked-stop : stop-of 1 0 worked ≡ stops 8 5
 unfolding stop-of worked
 worked-stop = refl
 
 -- "1 W 1 1 7", "2 R 1 1 7"
-worked-operations : operations-of 1 0 worked ≡ (operated WRITES 1 5 (entry 1 1 7) ∷ operated READS 6 10 (entry 1 1 7) ∷ [])
+worked-operations : operations-of 1 0 worked ≡ (operated WRITES 1 5 (entry 1 1 7) ∷ operated READS 6 8 (entry 1 1 7) ∷ [])
 unfolding operations-of worked
 worked-operations = refl
 
@@ -126,12 +126,9 @@ ended =
 turned : List (List ℕ)
 turned = fault-of 4 ∷ []
 
--- 1 and 4 answer old, and the read ends in view 2.
+-- 1 and 4 answer old, and the read ends in one exchange.
 stale : List (List ℕ)
-stale =
-    false-answer 1 1 9 0 ∷ false-answer 4 1 9 0 ∷ take-one 10 ∷ take-one 16 ∷ take-one 17
-    ∷ deliver-to 15 1 ∷ deliver-to 15 2 ∷ deliver-to 15 3 ∷ deliver-to 18 2 ∷ deliver-to 18 3 ∷ false-answer 1 2 18 0
-    ∷ take-one 19 ∷ take-one 20 ∷ take-one 21 ∷ []
+stale = false-answer 1 1 9 0 ∷ false-answer 4 1 9 0 ∷ take-one 10 ∷ take-one 16 ∷ take-one 17 ∷ []
 
 holds-before : premise-after 15 1 (written ++ ended) ≡ true
 unfolding premise-after written ended
@@ -142,11 +139,11 @@ unfolding premise-after written ended turned
 fails-after = refl
 
 -- every step is accepted, and the read, which began after the write had ended, returns the empty entry
-stale-stop : stop-of 15 1 (written ++ (ended ++ (turned ++ stale))) ≡ stops 38 0
+stale-stop : stop-of 15 1 (written ++ (ended ++ (turned ++ stale))) ≡ stops 29 0
 unfolding stop-of written ended turned stale
 stale-stop = refl
 
-stale-read : operations-of 15 1 (written ++ (ended ++ (turned ++ stale))) ≡ (operated WRITES 2 14 (entry 1 1 7) ∷ operated READS 15 38 empty ∷ [])
+stale-read : operations-of 15 1 (written ++ (ended ++ (turned ++ stale))) ≡ (operated WRITES 2 14 (entry 1 1 7) ∷ operated READS 15 29 empty ∷ [])
 unfolding operations-of written ended turned stale
 stale-read = refl
 
@@ -202,15 +199,14 @@ surfaced-open : client (run-of 15 1 surfaced .world) 2 .phase ≡ Writing (numbe
 unfolding run-of surfaced
 surfaced-open = refl
 
--- It ends once 1, 3 and 4 keep the entry, so that a read which they answer returns it too.
+-- It ends once 1, 3 and 4 keep the entry, so that a read which they answer returns it too, in one exchange.
 kept : List (List ℕ)
 kept =
     deliver-to 11 1 ∷ deliver-to 11 3 ∷ deliver-to 11 4 ∷ take-one 12 ∷ take-one 13 ∷ take-one 14
-    ∷ read 3 ∷ deliver-to 15 1 ∷ deliver-to 15 3 ∷ deliver-to 15 4 ∷ take-one 16 ∷ take-one 17 ∷ take-one 18
-    ∷ deliver-to 19 1 ∷ deliver-to 19 3 ∷ deliver-to 19 4 ∷ take-one 20 ∷ take-one 21 ∷ take-one 22 ∷ []
+    ∷ read 3 ∷ deliver-to 15 1 ∷ deliver-to 15 3 ∷ deliver-to 15 4 ∷ take-one 16 ∷ take-one 17 ∷ take-one 18 ∷ []
 
 kept-operations : operations-of 15 1 (surfaced ++ kept)
-    ≡ (operated WRITES 1 0 (entry 1 1 7) ∷ operated READS 9 21 (entry 1 1 7) ∷ operated READS 22 34 (entry 1 1 7) ∷ [])
+    ≡ (operated WRITES 1 0 (entry 1 1 7) ∷ operated READS 9 21 (entry 1 1 7) ∷ operated READS 22 28 (entry 1 1 7) ∷ [])
 unfolding operations-of surfaced kept
 kept-operations = refl
 
@@ -222,10 +218,10 @@ unfoldable pub given-up : List (List ℕ)
 given-up =
     write 1 6 ∷ give-up 1 ∷ write 1 8 ∷ deliver-to 2 1 ∷ take-one 3 ∷ give-up 1
     ∷ write 1 9 ∷ deliver-to 5 1 ∷ take-one 6 ∷ deliver-to 4 1 ∷ take-one 8
-    ∷ read 2 ∷ deliver-to 9 1 ∷ take-one 10 ∷ deliver-to 11 1 ∷ take-one 12 ∷ deliver-to 7 1 ∷ take-one 13 ∷ give-up 1 ∷ []
+    ∷ read 2 ∷ deliver-to 9 1 ∷ take-one 10 ∷ deliver-to 7 1 ∷ take-one 11 ∷ give-up 1 ∷ []
 
 given-up-history : operations-of 1 0 given-up
-    ≡ (record { kind = WRITES; begin = 1; end = 0; entry = none } ∷ operated WRITES 3 0 (entry 1 1 8) ∷ operated WRITES 7 18 (entry 2 1 9) ∷ operated READS 12 16 (entry 1 1 8) ∷ [])
+    ≡ (record { kind = WRITES; begin = 1; end = 0; entry = none } ∷ operated WRITES 3 0 (entry 1 1 8) ∷ operated WRITES 7 16 (entry 2 1 9) ∷ operated READS 12 14 (entry 1 1 8) ∷ [])
 unfolding operations-of given-up
 given-up-history = refl
 
@@ -283,10 +279,10 @@ shown-outside =
     ∷ read 2 ∷ fault-of 1 ∷ false-answer 1 1 11 5 ∷ deliver-to 11 2 ∷ deliver-to 11 3 ∷ deliver-to 11 4
     ∷ take-one 12 ∷ take-one 13 ∷ take-one 14 ∷ take-one 15 ∷ []
 
--- the reader writes the empty entry back
-outside-chosen : message (run-of 15 1 shown-outside .world) 16 ≡ request WRITE 2 0 empty
+-- the reader returns the empty entry, which all answers of view 2 carry, and sends nothing
+outside-chosen : (client (run-of 15 1 shown-outside .world) 2 .phase ≡ Idle) × (client (run-of 15 1 shown-outside .world) 2 .entry ≡ empty) × (run-of 15 1 shown-outside .world .used ≡ 15)
 unfolding run-of shown-outside
-outside-chosen = refl
+outside-chosen = (refl, refl, refl)
 
 -- Equal stamps. No run whose premise holds shows two entries of one stamp, so the ties are computed on entries: "its own", and
 -- "the one taken first", the last of a list from the newest to the oldest

@@ -12,7 +12,7 @@ use Rattle.protocol.specs.Entries.{empty, chosen}
 use Rattle.protocol.specs.Servers.{READ, WRITE, END, START, ANSWER, serve, mayAnswer}
 use Rattle.protocol.specs.Clients.{WRITES, READS, number, begin, giveUp, requestOf, closeSize, close, endOf, call, advance}
 use Rattle.protocol.specs.Worlds.{World, view, server, client, message, newest, member, present, room, withServer, withClient, withView, withMessage, withAdministrator, send, nextNumber}
-use Rattle.protocol.specs.Chains.{chain, enough, shown}
+use Rattle.protocol.specs.Chains.{chain, enough, shown, agreed}
 
 -- "1 write ... 2 read ... 3 deliver ... 4 take ... 5 fault ... 6 false answer ... 7 new view"; "a new step of kind 8"
 abbrev pub writeStep : ℕ
@@ -200,9 +200,9 @@ abbrev pub takenWith : World → ℕ → List ℕ
 takenWith w k = k ∷ chain w (message w k .request .0)
 
 -- a phase of client c closes with the entry e: its WRITE is sent, or its operation is complete
-unfoldable pub closes : World → ℕ → ℕ → Entry → Result After
-closes w k c e =
-    then (close (client w c) c e (nextNumber w))
+unfoldable pub closes : World → ℕ → ℕ → Entry → Bool → Result After
+closes w k c e one =
+    then (close (client w c) c e one (nextNumber w))
     (λ x. if (x .complete) (done (record { world = withClient (link w k) c (x .client); completed = c }))
     (guard (room w) 10 (moved (send (withClient (link w k) c (x .client)) (request WRITE c 0 (x .client .entry))))))
 
@@ -219,7 +219,7 @@ takes w k r t =
     if (eqb (message w r .kind) END)
     (if (eqb t (newest w) && enough w t (takenWith w k) (writeSize (view w t))) (starts w k (chosen (shown w t (takenWith w k)))) (moved (link w k)))
     (if (enough w t (takenWith w k) (closeSize (client w (message w r .sender) .phase) (view w t)))
-    (closes w k (message w r .sender) (chosen (shown w t (takenWith w k)))) (moved (link w k)))
+    (closes w k (message w r .sender) (chosen (shown w t (takenWith w k))) (agreed w t (takenWith w k))) (moved (link w k)))
 
 -- "Take: 5, not an answer; 7, taken before, or its request is neither that of an open phase nor the END number; 11; 10"
 unfoldable pub take : World → ℕ → Result After

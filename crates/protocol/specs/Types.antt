@@ -25,6 +25,7 @@ pub use Rattle.protocol.specs.declared.Begun.{Begun}
 pub use Rattle.protocol.specs.declared.Begun.the-variants.{BeginRefused, Began}
 pub use Rattle.protocol.specs.declared.GivenUp.{GivenUp}
 pub use Rattle.protocol.specs.declared.GivenUp.the-variants.{GiveUpRefused, GaveUp}
+pub use Rattle.protocol.specs.declared.Choice.{Choice}
 pub use Rattle.protocol.specs.declared.Taken.{Taken}
 pub use Rattle.protocol.specs.declared.Taken.the-variants.{Open, Closed}
 pub use Rattle.protocol.specs.declared.Closing.{Closing}

@@ -116,10 +116,16 @@ pub enum Begun {
     Began(Client),
 }
 
-// The answer either closes its phase, with the chosen entry, or leaves it open.
+// What answers of one view show: the entry chosen of them, and whether all carry it.
+pub struct Choice {
+    pub entry: Entry,
+    pub one: bool,
+}
+
+// The answer either closes its phase, with what is chosen, or leaves it open.
 pub enum Taken {
     Open,
-    Closed(Entry),
+    Closed(Choice),
 }
 
 // A client gives its operation up: a refusal, or its record with the phase idle.

@@ -55,14 +55,18 @@ serverCall s b =
     (guard (messagePlain (part b asked messageWidth)) 3
     (serverRule (serverOf s) (messageOf (part b asked messageWidth)) (getD b rulePlace 0) (getD b flagPlace 0) (getD b askedViewPlace 0))))))
 
--- rule u8, client u8, number u16, entry
+-- what is asked of a client ends with a flag: all answers of the chosen view carry the entry
+abbrev pub onePlace : ℕ
+onePlace = asked + entryWidth
+
+-- rule u8, client u8, number u16, entry, one u8
 unfoldable pub clientCall : List ℕ → List ℕ → Result Close
 clientCall c b =
     guard (eqb (length c) clientWidth) 1
-    (guard (eqb (length b) (asked + entryWidth)) 1
+    (guard (eqb (length b) (onePlace + 1)) 1
     (guard (clientPlain c) 3
     (guard (entryPlain (part b asked entryWidth)) 3
-    (clientRule (clientOf c) (getD b rulePlace 0) (getD b clientNumberPlace 0) (u16At b numberPlace) (entryOf (part b asked entryWidth))))))
+    (clientRule (clientOf c) (getD b rulePlace 0) (getD b clientNumberPlace 0) (u16At b numberPlace) (entryOf (part b asked entryWidth)) (getD b onePlace 0)))))
 
 -- rule u8, 1 zero, number u16, view
 unfoldable pub administratorCall : List ℕ → List ℕ → Result Administrator

@@ -10,7 +10,7 @@ use Rattle.protocol.specs.declared.Server.{Server}
 use Rattle.protocol.specs.declared.Client.{Client}
 use Rattle.protocol.specs.declared.Administrator.{Administrator}
 use Rattle.protocol.specs.declared.Message.{Message}
-use Rattle.protocol.specs.Tools.{if, Result, refused, done, guard, numberOf}
+use Rattle.protocol.specs.Tools.{bit, if, Result, refused, done, guard, numberOf}
 use Rattle.protocol.specs.Servers.{Reply}
 use Rattle.protocol.specs.Entries.{empty, same}
 use Rattle.protocol.specs.Clients.{Close}
@@ -42,17 +42,22 @@ unfoldable pub droppingRule : Client → ℕ → ℕ → Entry → Result Close
 droppingRule c who n e = guard (eqb who 0) 3 (guard (eqb n 0) 3 (guard (same e empty) 3 (opens (giveUpRule c))))
 
 -- 1 write of the entry's value, 2 read, 4 the close with an entry; n is the number of the message that it sends
-unfoldable pub operationRule : Client → ℕ → ℕ → ℕ → Entry → Result Close
-operationRule c rule who n e =
-    if (eqb rule takeStep) (closeRule c who e n)
+unfoldable pub operationRule : Client → ℕ → ℕ → ℕ → Entry → Bool → Result Close
+operationRule c rule who n e one =
+    if (eqb rule takeStep) (closeRule c who e one n)
     (guard (eqb who 0) 3
     (guard (blankStamp (e .stamp)) 3
     (if (eqb rule writeStep) (opens (writeRule c (e .value) n))
     (guard (eqb rule readStep) 3 (guard (eqb (e .value) 0) 3 (opens (readRule c n)))))))
 
--- a client's rules: those on an operation, and 8 giving up
-unfoldable pub clientRule : Client → ℕ → ℕ → ℕ → Entry → Result Close
-clientRule c rule who n e = if (eqb rule giveUpStep) (droppingRule c who n e) (operationRule c rule who n e)
+-- the flag is 0 or 1, and 0 but in a close
+abbrev pub flagFits : ℕ → ℕ → Bool
+flagFits rule flag = leb flag (bit (eqb rule takeStep))
+
+-- a client's rules: those on an operation, and 8 giving up; the flag says whether all answers of the chosen view carry the entry
+unfoldable pub clientRule : Client → ℕ → ℕ → ℕ → Entry → ℕ → Result Close
+clientRule c rule who n e flag =
+    guard (flagFits rule flag) 3 (if (eqb rule giveUpStep) (droppingRule c who n e) (operationRule c rule who n e (eqb flag 1)))
 
 -- 7 new view v, END being number n; 4 the close of END
 unfoldable pub administratorRule : Administrator → ℕ → ℕ → View → Result Administrator

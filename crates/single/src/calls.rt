@@ -50,6 +50,9 @@ const ADMINISTRATOR_SPARE_AT: usize = 1;
 
 const ASKED: usize = NUMBER_AT + U16;
 
+// What is asked of a client ends with a flag: all answers of the chosen view carry the entry.
+const ONE_AT: usize = ASKED + ENTRY;
+
 // "rule u8, flag u8, view u8, 1 zero, message"
 pub fn server_call(server: &[u8], call: &[u8]) -> Served
     ensures { λ r. ⌜ served r ≡ serverCall (now (server .entry)) (now (call .entry)) ⌝ }
@@ -74,14 +77,14 @@ pub fn server_call(server: &[u8], call: &[u8]) -> Served
     server_rule(a, m, call[RULE_AT], call[FLAG_AT], call[VIEW_AT])
 }
 
-// "rule u8, client u8, number u16, entry"
+// "rule u8, client u8, number u16, entry, one u8"
 pub fn client_call(client: &[u8], call: &[u8]) -> Closing
     ensures { λ r. ⌜ closing r ≡ clientCall (now (client .entry)) (now (call .entry)) ⌝ }
 {
     if client.len() != CLIENT {
         return Closing::CloseRefused(WRONG_LENGTH);
     }
-    if call.len() != ASKED + ENTRY {
+    if call.len() != ONE_AT + 1 {
         return Closing::CloseRefused(WRONG_LENGTH);
     }
     if !client_plain(client) {
@@ -93,7 +96,14 @@ pub fn client_call(client: &[u8], call: &[u8]) -> Closing
     let c = read_client(client);
     let e = read_entry(&call[ASKED..ASKED + ENTRY]);
     let n = get16(call, NUMBER_AT);
-    client_rule(c, call[RULE_AT], call[CLIENT_AT], MessageNumber(n), e)
+    client_rule(
+        c,
+        call[RULE_AT],
+        call[CLIENT_AT],
+        MessageNumber(n),
+        e,
+        call[ONE_AT],
+    )
 }
 
 // "rule u8, 1 zero, number u16, view"

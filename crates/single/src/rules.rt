@@ -2,7 +2,7 @@
 ghost use mathlib.Core.Path.{_≡_};
 ghost use Rattle.protocol.specs.Servers.{served};
 ghost use Rattle.protocol.specs.Clients.{begun, givenUp, closing, called};
-ghost use Rattle.single.specs.Rules.{serverRule, clientRule, operationRule, droppingRule, administratorRule, opens, blankStamp};
+ghost use Rattle.single.specs.Rules.{serverRule, clientRule, operationRule, droppingRule, flagFits, administratorRule, opens, blankStamp};
 use checked::rules;
 use protocol::Administrator;
 use protocol::Begun;
@@ -96,11 +96,11 @@ fn dropping_rule(c: Client, who: u8, n: MessageNumber, e: Entry) -> Closing
 }
 
 // A client's rules on an operation, by the kinds of their steps: 1 write, 2 read, 4 the close by an answer taken.
-fn operation_rule(c: Client, rule: u8, who: u8, n: MessageNumber, e: Entry) -> Closing
-    ensures { λ r. ⌜ closing r ≡ operationRule c rule who (n .0) e ⌝ }
+fn operation_rule(c: Client, rule: u8, who: u8, n: MessageNumber, e: Entry, one: bool) -> Closing
+    ensures { λ r. ⌜ closing r ≡ operationRule c rule who (n .0) e one ⌝ }
 {
     if rule == TAKE_STEP {
-        return rules::close_rule(c, who, e, n);
+        return rules::close_rule(c, who, e, one, n);
     }
     let stamp = e.stamp;
     if who != 0 {
@@ -121,14 +121,29 @@ fn operation_rule(c: Client, rule: u8, who: u8, n: MessageNumber, e: Entry) -> C
     opening(rules::read_rule(c, n))
 }
 
-// A client's rules, by the kinds of their steps: those on an operation, and 8 giving up.
-pub fn client_rule(c: Client, rule: u8, who: u8, n: MessageNumber, e: Entry) -> Closing
-    ensures { λ r. ⌜ closing r ≡ clientRule c rule who (n .0) e ⌝ }
+// The flag is 0 or 1, and 0 but in a close.
+fn flag_fits(rule: u8, flag: u8) -> bool
+    ensures { λ r. ⌜ r ≡ flagFits rule flag ⌝ }
 {
+    if rule == TAKE_STEP {
+        return flag <= 1;
+    }
+    flag <= 0
+}
+
+// A client's rules, by the kinds of their steps: those on an operation, and 8 giving up; the flag says whether all answers of the
+// chosen view carry the entry.
+pub fn client_rule(c: Client, rule: u8, who: u8, n: MessageNumber, e: Entry, flag: u8) -> Closing
+    ensures { λ r. ⌜ closing r ≡ clientRule c rule who (n .0) e flag ⌝ }
+{
+    let flag_ok = flag_fits(rule, flag);
+    if !flag_ok {
+        return Closing::CloseRefused(UNFIT);
+    }
     if rule == GIVE_UP_STEP {
         return dropping_rule(c, who, n, e);
     }
-    operation_rule(c, rule, who, n, e)
+    operation_rule(c, rule, who, n, e, flag == 1)
 }
 
 // The administrator's rules, by the kinds of their steps: 7 new view, 4 the close of END by an answer taken.

@@ -9,8 +9,9 @@ use lib.Dec.{eqb}
 use borrow.Author.Tests.{ltb-true, eqb-true, eq-eqb, ne-eqb, le-leb, not-false}
 use Rattle.values.specs.declared.tally.Tally.{Tally}
 use Rattle.machines.specs.Clients.{advanceIn, advance-in}
-use Rattle.values.specs.Tallies.{addAnswer, tallyFrom, tallyOf, firstAnswer, closesAt, tally-closes}
+use Rattle.values.specs.Tallies.{addAnswer, tallyFrom, tallyOf, firstAnswer, closesAt, choice, tally-closes}
 use Rattle.protocol.specs.declared.Entry.{Entry}
+use Rattle.protocol.specs.declared.Choice.{Choice}
 use Rattle.protocol.specs.declared.View.{View}
 use Rattle.protocol.specs.declared.Message.{Message}
 use Rattle.protocol.specs.declared.MessageNumber.{MessageNumber}
@@ -28,7 +29,7 @@ use Rattle.protocol.specs.Entries.{chosen}
 use Rattle.protocol.specs.Servers.{READ, WRITE, END, START, ANSWER}
 use Rattle.protocol.specs.Clients.{number, requestOf, closeSize, Close, close, endOf, advance, taken, called}
 use Rattle.protocol.specs.Worlds.{World, view, client, message, newest, present, room, withClient, withAdministrator, send, nextNumber}
-use Rattle.protocol.specs.Chains.{follow, chain, enough, shown}
+use Rattle.protocol.specs.Chains.{follow, chain, enough, shown, agreed}
 use Rattle.protocol.specs.Steps.{After, moved, request, link, open?, takenWith, closes, starts, takes, take}
 use Rattle.protocol.specs.Readable.{endingFits, senderFits, tagRule, sentFits, takenAnswer}
 use Rattle.protocol.specs.Laws.Tests.{and-left, and-right, within-true}
@@ -204,9 +205,9 @@ module _ {l : List ℕ} {k : ℕ} (h : Takable l k) where
       go (EndSent q) f p = ltb-true _ _ (and-left _ _ f)
 
 -- "A phase closes when, by the answer just taken, the answers taken with that answer's view t come from at least q(t) different servers."
-abbrev pub closesWith : World → ℕ → ℕ → Option Entry
+abbrev pub closesWith : World → ℕ → ℕ → Option Choice
 closesWith w k size =
-    if (enough w (message w k .view .0) (takenWith w k) size) (some (chosen (shown w (message w k .view .0) (takenWith w k)))) none
+    if (enough w (message w k .view .0) (takenWith w k) size) (some (choice w (message w k .view .0) (takenWith w k))) none
 
 -- ---- linking
 
@@ -247,7 +248,7 @@ module _ {l : List ℕ} {r : ℕ} {q : Message} (h : Asked l r q) where
 
 -- ---- "the answer either closes its phase or leaves it open"
 
-module _ (b : Bool) (x : Taken) (e : Entry) (p : taken x ≡ if b (some e) none) where
+module _ (b : Bool) (x : Taken) (e : Choice) (p : taken x ≡ if b (some e) none) where
   pub stays-open : x ≡ Open → b ≡ false
   stays-open q = go b (sym (ap taken q) ∙ p)
     where
@@ -255,7 +256,7 @@ module _ (b : Bool) (x : Taken) (e : Entry) (p : taken x ≡ if b (some e) none)
       go true z = cc
       go false z = refl
 
-  pub is-closed : (a : Entry) → x ≡ Closed a → (b ≡ true) × (a ≡ e)
+  pub is-closed : (a : Choice) → x ≡ Closed a → (b ≡ true) × (a ≡ e)
   is-closed a q = go b (sym (ap taken q) ∙ p)
     where
       go : (b : Bool) → some a ≡ if b (some e) none → (b ≡ true) × (a ≡ e)
@@ -271,7 +272,7 @@ endTaken w k =
 unfoldable pub clientTaken : World → ℕ → ℕ → Result After
 clientTaken w k c =
     let t : ℕ = message w k .view .0 in
-    if (enough w t (takenWith w k) (closeSize (client w c .phase) (view w t))) (closes w k c (chosen (shown w t (takenWith w k)))) (moved (link w k))
+    if (enough w t (takenWith w k) (closeSize (client w c .phase) (view w t))) (closes w k c (chosen (shown w t (takenWith w k))) (agreed w t (takenWith w k))) (moved (link w k))
 
 module _ (w : World) (k : ℕ) where
   -- "Answers to END with another view are taken and count for nothing."
@@ -282,22 +283,22 @@ module _ (w : World) (k : ℕ) where
   module _ (x : Taken) (size : ℕ) (p : taken x ≡ closesWith w k size) where
     pub end-open : message w k .view .0 ≡ newest w → size ≡ writeSize (view w (message w k .view .0)) → x ≡ Open → endTaken w k ≡ moved (link w k)
     unfolding endTaken
-    end-open t s o = rw (eq-eqb _ _ t, ← s, stays-open (enough w (message w k .view .0) (takenWith w k) size) x (chosen (shown w (message w k .view .0) (takenWith w k))) p o)
+    end-open t s o = rw (eq-eqb _ _ t, ← s, stays-open (enough w (message w k .view .0) (takenWith w k) size) x (choice w (message w k .view .0) (takenWith w k)) p o)
 
-    pub end-closed : message w k .view .0 ≡ newest w → size ≡ writeSize (view w (message w k .view .0)) → (e : Entry) → x ≡ Closed e → endTaken w k ≡ starts w k e
+    pub end-closed : message w k .view .0 ≡ newest w → size ≡ writeSize (view w (message w k .view .0)) → (e : Choice) → x ≡ Closed e → endTaken w k ≡ starts w k (e .entry)
     unfolding endTaken
     end-closed t s e o =
-        let (b, c) = is-closed (enough w (message w k .view .0) (takenWith w k) size) x (chosen (shown w (message w k .view .0) (takenWith w k))) p e o in
+        let (b, c) = is-closed (enough w (message w k .view .0) (takenWith w k) size) x (choice w (message w k .view .0) (takenWith w k)) p e o in
         rw (eq-eqb _ _ t, ← s, b, c)
 
     pub client-open : (c : ℕ) → size ≡ closeSize (client w c .phase) (view w (message w k .view .0)) → x ≡ Open → clientTaken w k c ≡ moved (link w k)
     unfolding clientTaken
-    client-open c s o = rw (← s, stays-open (enough w (message w k .view .0) (takenWith w k) size) x (chosen (shown w (message w k .view .0) (takenWith w k))) p o)
+    client-open c s o = rw (← s, stays-open (enough w (message w k .view .0) (takenWith w k) size) x (choice w (message w k .view .0) (takenWith w k)) p o)
 
-    pub client-closed : (c : ℕ) → size ≡ closeSize (client w c .phase) (view w (message w k .view .0)) → (e : Entry) → x ≡ Closed e → clientTaken w k c ≡ closes w k c e
+    pub client-closed : (c : ℕ) → size ≡ closeSize (client w c .phase) (view w (message w k .view .0)) → (e : Choice) → x ≡ Closed e → clientTaken w k c ≡ closes w k c (e .entry) (e .one)
     unfolding clientTaken
     client-closed c s e o =
-        let (b, d) = is-closed (enough w (message w k .view .0) (takenWith w k) size) x (chosen (shown w (message w k .view .0) (takenWith w k))) p e o in
+        let (b, d) = is-closed (enough w (message w k .view .0) (takenWith w k) size) x (choice w (message w k .view .0) (takenWith w k)) p e o in
         rw (← s, b, d)
 
 -- ---- a phase of a client closes
@@ -309,17 +310,17 @@ wroteWorld w k c a = send (withClient (link w k) c a) (request WRITE c 0 (a .ent
 unfoldable pub wrote : World → ℕ → ℕ → Client → Result After
 wrote w k c a = guard (room w) 10 (moved (wroteWorld w k c a))
 
-module _ (w : World) (k c : ℕ) (e : Entry) where
-  pub close-refused : (n : ℕ) → close (client w c) c e (nextNumber w) ≡ refused n → closes w k c e ≡ refused n
+module _ (w : World) (k c : ℕ) (e : Entry) (one : Bool) where
+  pub close-refused : (n : ℕ) → close (client w c) c e one (nextNumber w) ≡ refused n → closes w k c e one ≡ refused n
   unfolding closes
   close-refused n p = rw p
 
-  pub close-complete : (a : Client) → close (client w c) c e (nextNumber w) ≡ done (record { client = a; complete = true })
-      → closes w k c e ≡ done (record { world = withClient (link w k) c a; completed = c })
+  pub close-complete : (a : Client) → close (client w c) c e one (nextNumber w) ≡ done (record { client = a; complete = true })
+      → closes w k c e one ≡ done (record { world = withClient (link w k) c a; completed = c })
   unfolding closes
   close-complete a p = rw p
 
-  pub close-writes : (a : Client) → close (client w c) c e (nextNumber w) ≡ done (record { client = a; complete = false }) → closes w k c e ≡ wrote w k c a
+  pub close-writes : (a : Client) → close (client w c) c e one (nextNumber w) ≡ done (record { client = a; complete = false }) → closes w k c e one ≡ wrote w k c a
   unfolding closes wrote wroteWorld
   close-writes a p = rw p
 
@@ -466,7 +467,7 @@ module _ {l : List ℕ} {k : ℕ} (h : Takable l k) (m : Message) (e : m ≡ mes
     pub head-walk : Walk l messages (q .next .0)
     head-walk = subst (λ (x : Message). Walk l messages (x .next .0)) (sym request-is) (walk-from h)
 
-    pub tally-taken : (size : ℕ) (x : Option Entry) (a b : Tally) → a ≡ firstAnswer m → b ≡ tallyFrom (decode l) (m .view .0) a (follow (decode l) messages (q .next .0))
+    pub tally-taken : (size : ℕ) (x : Option Choice) (a b : Tally) → a ≡ firstAnswer m → b ≡ tallyFrom (decode l) (m .view .0) a (follow (decode l) messages (q .next .0))
         → x ≡ closesAt b size → x ≡ closesWith (decode l) k size
     unfolding tallyOf chain
     tally-taken size x a b p r z =
@@ -493,10 +494,10 @@ linked-image {l} {l1} {l2} {k} h m e q f x y a b c d =
     message-put (message-put (image-of (h .legible)) k _ (answer-low h) (rw (i, j) at (c ∙ ap (putMessage l k) a))) r _ (asked-low h)
     (rw (i, j) at (d ∙ ap (putMessage l1 (m .request .0)) b)) .is
 
-pub close-known : {l : List ℕ} → Legible l → (c : ℕ) → 1 ≤ c → c ≤ clients → (b : Client) (n : ℕ) (e : Entry) (x : Result Close) → b ≡ clientAt l c → n ≡ usedAt l
-    → x ≡ close b c e (n + 1) → x ≡ close (client (decode l) c) c e (nextNumber (decode l))
-close-known {l} h c lo hi b n e x p q r =
-    r ∙ ap (λ (y : Client). close y c e (n + 1)) (p ∙ client-is h c lo hi) ∙ ap (λ (y : ℕ). close (client (decode l) c) c e (y + 1)) (q ∙ used-is h)
+pub close-known : {l : List ℕ} → Legible l → (c : ℕ) → 1 ≤ c → c ≤ clients → (b : Client) (n : ℕ) (e : Entry) (one : Bool) (x : Result Close) → b ≡ clientAt l c → n ≡ usedAt l
+    → x ≡ close b c e one (n + 1) → x ≡ close (client (decode l) c) c e one (nextNumber (decode l))
+close-known {l} h c lo hi b n e one x p q r =
+    r ∙ ap (λ (y : Client). close y c e one (n + 1)) (p ∙ client-is h c lo hi) ∙ ap (λ (y : ℕ). close (client (decode l) c) c e one (y + 1)) (q ∙ used-is h)
 
 -- the size of a quorum of an answer's view
 pub size-known : {l : List ℕ} {k : ℕ} → Takable l k → (c : ℕ) → 1 ≤ c → c ≤ clients → (m : Message) (v : View) (b : Client) (size : ℕ) → m ≡ messageAt l k → v ≡ viewAt l (m .view .0)

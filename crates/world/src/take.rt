@@ -29,6 +29,7 @@ use machines::clients::close;
 use machines::clients::close_size;
 use machines::clients::request_of;
 use protocol::Called;
+use protocol::Choice;
 use protocol::Client;
 use protocol::Closing;
 use protocol::Entry;
@@ -58,7 +59,7 @@ fn taken_with(image: &[u8], k: MessageNumber, size: u32) -> Taken
     let q = load_message(image, r);
     let head = q.next;
     let own = server_alone(ServerNumber(m.sender));
-    let first = gathered(own, k);
+    let first = gathered(own, k, true);
     let answers = gather(image, t, head, MESSAGES, first);
     let tally = opened(image, answers);
     closes(tally, size)
@@ -136,15 +137,15 @@ fn write_next(image: &mut [u8], k: MessageNumber, c: u8, a: Client) -> Stepped
     Stepped::StepDone(0)
 }
 
-// A phase of client c closes with the entry e. "Closing WRITE completes the operation; the entry is its result." 11, the
-// closing write would need a count over 4,294,967,295; 10.
-fn close_client(image: &mut [u8], k: MessageNumber, c: u8, e: Entry) -> Stepped
+// A phase of client c closes with what is chosen, x: the operation is complete, or its WRITE is next. 11, the closing write
+// would need a count over 4,294,967,295; 10.
+fn close_client(image: &mut [u8], k: MessageNumber, c: u8, x: Choice) -> Stepped
     requires { ⌜ Takable (now image) (k .0) × (1 ≤ c) × (c ≤ clients) ⌝ }
-    ensures { λ r. ⌜ Does r (now (image .entry)) (now (image .exit)) (closesOf (decode (now (image .entry))) (k .0) c e) ⌝ }
+    ensures { λ r. ⌜ Does r (now (image .entry)) (now (image .exit)) (closesOf (decode (now (image .entry))) (k .0) c (x .entry) (x .one)) ⌝ }
 {
     let used = load_used(image);
     let before = load_client(image, c);
-    let closing = close(before, c, e, MessageNumber(used + 1));
+    let closing = close(before, c, x.entry, x.one, MessageNumber(used + 1));
     match closing {
         Closing::CloseRefused(n) => Stepped::StepRefused(n),
         Closing::WritesNext(a) => write_next(image, k, c, a),
@@ -167,11 +168,11 @@ fn take_client(image: &mut [u8], k: MessageNumber, c: u8) -> Stepped
     let own = load_client(image, c);
     let phase = own.phase;
     let size = close_size(phase, v);
-    let Taken::Closed(e) = taken_with(image, k, size) else {
+    let Taken::Closed(x) = taken_with(image, k, size) else {
         link(image, k);
         return Stepped::StepDone(0);
     };
-    close_client(image, k, c, e)
+    close_client(image, k, c, x)
 }
 
 // "t+1 becomes the newest and START t+1 is sent with their largest entry", e. 10. A view that is ended is below 32, so that
@@ -212,11 +213,11 @@ fn take_end(image: &mut [u8], k: MessageNumber) -> Stepped
     }
     let v = load_view(image, t);
     let size = write_size(v);
-    let Taken::Closed(e) = taken_with(image, k, size) else {
+    let Taken::Closed(x) = taken_with(image, k, size) else {
         link(image, k);
         return Stepped::StepDone(0);
     };
-    start_view(image, k, e)
+    start_view(image, k, x.entry)
 }
 
 // "Take: 5, not an answer; 7, taken before, or its request is neither that of an open phase nor the END number"; 11; 10.

@@ -63,7 +63,7 @@ pub fn client_call(world: &World, draws: &mut Draws) -> Call {
     }
     let [n0, n1] = a_number(draws).to_le_bytes();
     let value = draws.word() as u32;
-    match draws.below(5) {
+    let (record, mut asked) = match draws.below(5) {
         0 => call(
             client,
             [step_kind::WRITE, 0, n0, n1],
@@ -75,7 +75,10 @@ pub fn client_call(world: &World, draws: &mut Draws) -> Call {
             let entry = a_message(world, draws).entry;
             call(client, [step_kind::TAKE, number, n0, n1], entry)
         }
-    }
+    };
+    let flag = asked[0] == step_kind::TAKE && draws.chance(50);
+    asked.push(u8::from(flag));
+    (record, asked)
 }
 
 /// An open phase whose request need not be a message of any world.

@@ -47,6 +47,11 @@ fn draw_count(draws: &mut Draws) -> u32 {
 /// stamps and other values, some at the end of the counts.
 fn draw_entries(draws: &mut Draws) -> Vec<Entry> {
     let writer = |draws: &mut Draws| draws.between(0, usize::from(LAST_CLIENT)) as u8;
+    if draws.chance(15) {
+        // Two that differ in the value alone.
+        let count = draw_count(draws);
+        return vec![Entry::new(count, 1, 1), Entry::new(count, 1, 2)];
+    }
     let mut entries = vec![Entry::EMPTY];
     for _ in 0..draws.between(1, 5) {
         let count = draw_count(draws);
@@ -60,7 +65,7 @@ fn draw_entries(draws: &mut Draws) -> Vec<Entry> {
 }
 
 fn an_entry(draws: &mut Draws, entries: &[Entry]) -> Entry {
-    *draws.pick(entries).expect("the empty entry is among them")
+    *draws.pick(entries).expect("there are entries")
 }
 
 fn draw_header(world: &mut World, draws: &mut Draws) {

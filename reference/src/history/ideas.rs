@@ -91,7 +91,7 @@ impl Idea {
 
 /// Document 01's own example. The write ends on 1, 3, 4; 2 has answered the
 /// read with the old entry; 1, 2, 3 have left when 4 turns faulty; 1 and 4 show
-/// the read the old entry, and the next view lets it write that back.
+/// the read the old entry too.
 pub fn old_quorum_turns_faulty() -> Journal {
     Journal::new(0b1111, 1)
         .then(Step::fault(1))
@@ -119,20 +119,11 @@ pub fn old_quorum_turns_faulty() -> Journal {
         .then(Step::false_answer(4, 1, 9, 0)) // 16
         .then(Step::take(10))
         .then(Step::take(15))
-        .then(Step::take(16)) // 17, WRITE of the empty entry
-        .then(Step::take(12))
-        .then(Step::take(13))
-        .then(Step::take(14)) // 18, START
-        .then(Step::deliver(2, 18))
-        .then(Step::deliver(3, 18))
-        .then(Step::deliver(2, 17)) // 19
-        .then(Step::deliver(3, 17)) // 20
-        .then(Step::take(19))
-        .then(Step::take(20)) // the read ends
+        .then(Step::take(16)) // the read ends
 }
 
 /// The write ends on 1, 2, 3; the read hears the faulty server 4 alone, three
-/// times in each phase.
+/// times.
 pub fn faulty_server_answers_often() -> Journal {
     let mut journal = Journal::new(0b1111, 1)
         .then(Step::fault(4))
@@ -146,13 +137,11 @@ pub fn faulty_server_answers_often() -> Journal {
         }
     }
     journal.push(Step::read(2)); // 9
-    for request in [9, 13] {
-        for _ in 0..3 {
-            journal.push(Step::false_answer(4, 1, request, 0));
-        }
-        for answer in request + 1..=request + 3 {
-            journal.push(Step::take(answer));
-        }
+    for _ in 0..3 {
+        journal.push(Step::false_answer(4, 1, 9, 0));
+    }
+    for answer in 10..=12 {
+        journal.push(Step::take(answer));
     }
     journal
 }
@@ -182,11 +171,7 @@ pub fn one_of_each_view() -> Journal {
         .then(Step::deliver(3, 11)) // 12
         .then(Step::deliver(6, 11)) // 13
         .then(Step::take(12))
-        .then(Step::take(13)) // 14, WRITE
-        .then(Step::deliver(3, 14)) // 15
-        .then(Step::deliver(6, 14)) // 16
-        .then(Step::take(15))
-        .then(Step::take(16)) // the read ends
+        .then(Step::take(13)) // the read ends
 }
 
 /// Views {1}, {2}, {3}. Server 2 has ended its view when START comes again; the
@@ -209,9 +194,7 @@ pub fn retired_server_starts_again() -> Journal {
         .then(Step::take(10)) // the write ends
         .then(Step::read(2)) // 11
         .then(Step::deliver(3, 11)) // 12
-        .then(Step::take(12)) // 13, WRITE
-        .then(Step::deliver(3, 13)) // 14
-        .then(Step::take(14)) // the read ends
+        .then(Step::take(12)) // the read ends
 }
 
 /// The first write has reached server 1 alone when it is given up. The second
@@ -247,11 +230,7 @@ pub fn stamp_given_again() -> Journal {
         .then(Step::deliver(2, 18)) // 19
         .then(Step::deliver(3, 18)) // 20
         .then(Step::take(19))
-        .then(Step::take(20)) // 21, WRITE
-        .then(Step::deliver(2, 21)) // 22
-        .then(Step::deliver(3, 21)) // 23
-        .then(Step::take(22))
-        .then(Step::take(23)) // the second read ends
+        .then(Step::take(20)) // the second read ends
 }
 
 /// The write has reached server 1 only. A first read hears 1 and 2, a second

@@ -24,7 +24,7 @@ fn an_open_phase_becomes_idle_and_only_the_largest_count_stays() {
             let mut script = script.clone();
             script.act(begin);
             if phases == 1 {
-                script.exchange(script.request(1), &[1, 2]);
+                script.exchange(script.request(1), &[1, 3]);
             }
             let largest = script.world.client(1).largest;
             let messages = script.world.messages;
@@ -152,8 +152,8 @@ fn a_given_up_operation_is_unfinished_and_a_client_may_have_several() {
         unfinished,
         [
             (1, Kind::Write, Some(Entry::new(1, 1, 1000))),
-            (1, Kind::Write, None),
             (2, Kind::Read, None),
+            (1, Kind::Write, None),
         ]
     );
     assert_eq!(ordered(&run.operations).len(), 4);

@@ -8,6 +8,7 @@ mod history;
 mod ideas;
 mod judge;
 mod load;
+mod one_exchange;
 mod program;
 mod quorum;
 mod readable;

@@ -267,6 +267,7 @@ fn take() {
     for server in 1..=4 {
         script.answer(server, 1); // 2 to 5
     }
+    script.world.messages[2].entry = Entry::new(1, 1, 1);
     let world = script.world.clone();
     assert_eq!(refused(&world, Step::take(6)), Reason::NoSuchMessage);
     assert_eq!(refused(&world, Step::take(1)), Reason::NotAnAnswer);

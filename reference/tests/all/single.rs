@@ -87,6 +87,15 @@ fn a_server_lies_where_a_false_answer_is_accepted() {
     assert!(done > 200, "{done} done");
 }
 
+/// Whether the step closed a client's phase.
+fn closes(deed: Deed) -> bool {
+    match deed {
+        Deed::Closed(close) => close != Close::End,
+        Deed::OneExchange | Deed::WroteBack(_) => true,
+        _ => false,
+    }
+}
+
 #[test]
 fn a_client_does_what_begins_and_closes_do() {
     let mut draws = Draws::new(13);
@@ -98,12 +107,13 @@ fn a_client_does_what_begins_and_closes_do() {
         let mut after = before.clone();
         let outcome = step::<Sound>(&mut after, &record);
         let [n0, n1] = (before.header.used + 1).to_le_bytes();
+        let mut one_entry = 0;
         let (number, head, entry) = match (kind, outcome) {
             (1 | 2, _) if before.header.used < 1023 => {
                 let entry = Entry::new(0, 0, record.value);
                 (record.who, [kind, 0, n0, n1], entry)
             }
-            (4, Ok(done)) if matches!(done.deed, Deed::Closed(close) if close != Close::End) => {
+            (4, Ok(done)) if closes(done.deed) => {
                 let request = before.messages[usize::from(record.message)].request;
                 let number = before.messages[usize::from(request)].sender;
                 // What is written is one count above the largest entry.
@@ -112,12 +122,13 @@ fn a_client_does_what_begins_and_closes_do() {
                     entry.count -= 1;
                     assert_eq!(after.client(number).largest, entry.count + 1);
                 }
+                one_entry = u8::from(done.deed == Deed::OneExchange);
                 (number, [kind, number, n0, n1], entry)
             }
             _ => continue,
         };
         let mut client = before.client(number).bytes();
-        let asked = [&head[..], &entry.bytes()].concat();
+        let asked = [&head[..], &entry.bytes(), &[one_entry]].concat();
         match (client_call(&mut client, &asked), outcome) {
             (Ok(complete), Ok(done)) => {
                 assert_eq!(client, after.client(number).bytes());
@@ -175,14 +186,24 @@ fn the_administrator_does_what_new_view_and_a_closing_end_do() {
 
 #[test]
 fn a_host_needs_a_number_only_where_it_sends() {
-    let close = |record: &mut Vec<u8>, number: u16| {
+    let close_with = |record: &mut Vec<u8>, number: u16, one_entry: u8| {
         let [n0, n1] = number.to_le_bytes();
-        let asked = [&[4, 1, n0, n1][..], &Entry::EMPTY.bytes()].concat();
+        let asked = [&[4, 1, n0, n1][..], &Entry::EMPTY.bytes(), &[one_entry]].concat();
         client_call(record, &asked)
     };
+    let close = |record: &mut Vec<u8>, number: u16| close_with(record, number, 0);
+    // A read in one exchange sends nothing; a write sends all the same.
+    let read = [&[1, 2, 1, 0][..], &Entry::EMPTY.bytes(), &[9, 0, 0, 0]].concat();
+    let mut record = read.clone();
+    assert_eq!(close_with(&mut record, 0, 1), Ok(true));
+    assert_eq!(record, [&[0, 2][..], &[0; 14], &[9, 0, 0, 0]].concat());
+    assert_eq!(close(&mut read.clone(), 0), Err(Reason::CallRange));
+    assert_eq!(close_with(&mut read.clone(), 1, 2), Err(Reason::CallRange));
     let reading = [&[1, 1, 1, 0][..], &Entry::new(0, 0, 7).bytes(), &[0; 4]].concat();
     for number in [0, 1024, u16::MAX] {
         assert_eq!(close(&mut reading.clone(), number), Err(Reason::CallRange));
+        let answer = close_with(&mut reading.clone(), number, 1);
+        assert_eq!(answer, Err(Reason::CallRange));
     }
     let mut record = reading;
     assert_eq!(close(&mut record, 1023), Ok(false));

@@ -9,7 +9,7 @@ use Rattle.protocol.specs.Tools.{countTo, holds}
 use Rattle.protocol.specs.Sizes.{servers, readSize, writeSize}
 use Rattle.protocol.specs.Entries.{empty}
 use Rattle.protocol.specs.Servers.{READ, WRITE, END, START, ANSWER, isRequest}
-use Rattle.protocol.specs.Clients.{number, toWrite, givenBy}
+use Rattle.protocol.specs.Clients.{READS, number, toWrite, givenBy}
 use Rattle.protocol.specs.Worlds.{World, view, server, client, newest, member}
 use Rattle.protocol.specs.Laws.Entries.{_≼_}
 use Rattle.protocol.specs.Laws.Worlds.{sent}
@@ -137,6 +137,19 @@ pub record Kept (w : World) (r : ℕ) : Type 0 where
   pub votes : Votes w tag (writeSize (view w tag)) (λ s k. To w r entry k)
   pub chosen : Chosen w tag r entry
 
+-- answer k is to request r, and shows e
+pub record Showed (w : World) (r : ℕ) (e : Entry) (k : ℕ) : Type 0 where
+  pub request : sent w k .request .0 ≡ r
+  pub shows : sent w k .entry ≡ e
+
+-- a READ phase closed on answers that show one entry, as many as a WRITE needs
+pub record Agreed (w : World) (r : ℕ) (e : Entry) : Type 0 where
+  pub tag : ℕ
+  pub votes : Votes w tag (readSize (view w tag)) (λ s k. Showed w r e k)
+  pub covers : writeSize (view w tag) ≤ readSize (view w tag)
+  pub chosen : Chosen w tag r e
+  pub other : sent w r .kind ≡ END → ⊥
+
 -- ---- clients
 
 -- what a step that completed `done` and began an operation of `starter` (0 for none) does to client c
@@ -149,6 +162,8 @@ pub data Acted (w v : World) (done starter kind c : ℕ) : Type 0 where
       → Closed w v c r → Acted w v done starter kind c
   ended : (r : ℕ) → done ≡ c → (starter ≡ c → ⊥) → client w c .phase ≡ Writing (number r) → client v c .phase ≡ Idle
       → client v c .entry ≡ client w c .entry → client v c .given ≡ client w c .given → Kept w r → Acted w v done starter kind c
+  exchanged : (r : ℕ) → done ≡ c → (starter ≡ c → ⊥) → client w c .phase ≡ Reading (number r) → client w c .kind ≡ READS → client v c .phase ≡ Idle
+      → client v c .given ≡ client w c .given → Agreed w r (client v c .entry) → Acted w v done starter kind c
   gave-up : (done ≡ c → ⊥) → (starter ≡ c → ⊥) → client v c .phase ≡ Idle → client v c .given ≡ client w c .given → Acted w v done starter kind c
 
 -- a WRITE is sent by a client whose READ phase closed

@@ -3,15 +3,15 @@ use Prim.Native.Nat.{_≤_, _<_}
 use native.Mathlib.Nat.{le-refl}
 use native.Mathlib.Omega.{arith}
 use mathlib.Core.Bool.{Bool, true, false, _&&_, _||_}
-use mathlib.Core.Path.{_≡_, refl, sym, _∙_}
+use mathlib.Core.Path.{_≡_, refl, sym, _∙_, ap}
 use mathlib.Core.Logic.{_⊎_, inl, inr}
 use mathlib.Core.List.{List, [], _∷_}
 use lib.Dec.{ltb, eqb}
-use borrow.Author.Tests.{ltb-true, ltb-false, eqb-true, eqb-false}
+use borrow.Author.Tests.{ltb-true, ltb-false, eqb-true, eqb-false, eq-eqb}
 use Rattle.protocol.specs.Types.{Entry}
-use Rattle.protocol.specs.Tools.{if}
-use Rattle.protocol.specs.Entries.{countOf, writerOf, below, larger, largest, chosen}
-use Rattle.protocol.specs.Laws.Tests.{and-left, and-right, or-cases, clash}
+use Rattle.protocol.specs.Tools.{if, all}
+use Rattle.protocol.specs.Entries.{countOf, writerOf, below, larger, largest, chosen, same}
+use Rattle.protocol.specs.Laws.Tests.{and-left, and-right, or-cases, clash, and-both, by-test}
 
 infix 50 _≼_
 -- the stamp of a is at most that of b
@@ -80,6 +80,47 @@ larger-one a b = go (below a b)
     go : (t : Bool) → (if t b a ≡ a) ⊎ (if t b a ≡ b)
     go true = inr refl
     go false = inl refl
+
+-- entries that agree in every field are one
+pub same-is : (a b : Entry) → same a b ≡ true → a ≡ b
+unfolding same
+same-is a b e =
+    let c : countOf a ≡ countOf b = eqb-true _ _ (and-left _ _ e) in
+    let r = and-right (eqb (countOf a) (countOf b)) _ e in
+    let w : writerOf a ≡ writerOf b = eqb-true _ _ (and-left _ _ r) in
+    let v : a .value ≡ b .value = eqb-true _ _ (and-right (eqb (writerOf a) (writerOf b)) _ r) in
+    λ i. record { stamp = record { count = record { 0 = c i }; writer = w i }; value = v i }
+
+pub is-same : (a b : Entry) → a ≡ b → same a b ≡ true
+unfolding same
+is-same a b e =
+    and-both _ _ (eq-eqb _ _ (ap countOf e)) (and-both _ _ (eq-eqb _ _ (ap writerOf e)) (eq-eqb _ _ (ap (λ (x : Entry). x .value) e)))
+
+-- entries that all agree with the first: it is the largest of them
+pub larger-same : (a b : Entry) → a ≡ b → larger a b ≡ b
+larger-same a b e = go (larger-one a b)
+  where
+    go : (larger a b ≡ a) ⊎ (larger a b ≡ b) → larger a b ≡ b
+    go (inl p) = p ∙ e
+    go (inr p) = p
+
+pub largest-same : (e : Entry) (es : List Entry) → all (same e) es ≡ true → largest e es ≡ e
+unfolding largest all
+largest-same e [] h = refl
+largest-same e (x ∷ xs) h =
+    ap (λ (y : Entry). largest y xs) (larger-same x e (sym (same-is _ _ (and-left _ _ h)))) ∙ largest-same e xs (and-right (same e x) _ h)
+
+-- they all agree with the largest where they all agree with the first
+pub all-one : (e : Entry) (es : List Entry) → all (same (largest e es)) (e ∷ es) ≡ all (same e) es
+unfolding all
+all-one e es = go (all (same e) es) refl
+  where
+    first : (same (largest e es) e && all (same (largest e es)) es) ≡ true → all (same e) es ≡ true
+    first h = rw (same-is _ _ (and-left _ _ h)) at (and-right (same (largest e es) e) _ h)
+
+    go : (b : Bool) → all (same e) es ≡ b → (same (largest e es) e && all (same (largest e es)) es) ≡ b
+    go true p = let q = largest-same e es p in rw (q, is-same e e refl) p
+    go false p = by-test (same (largest e es) e && all (same (largest e es)) es) (λ h. clash (first h) p) (λ h. h)
 
 -- an entry of a list
 pub data Listed (x : Entry) : List Entry → Type 0 where

@@ -16,7 +16,7 @@ use Rattle.protocol.specs.Types.{Entry, View, Server, Phase, Idle, Readi
 use Rattle.protocol.specs.Tools.{if, within, Result, refused, done, guard, then, numberOf}
 use Rattle.protocol.specs.Sizes.{quorumSize, writeSize}
 use Rattle.protocol.specs.Servers.{READ, WRITE, END, START, start, serve, mayAnswer}
-use Rattle.protocol.specs.Clients.{begin, giveUp, closeSize, closeBy, close, call}
+use Rattle.protocol.specs.Clients.{begin, giveUp, closeSize, closeBy, close, call, READS}
 use Rattle.protocol.specs.Worlds.{World, view, client, message, newest, fresh}
 use Rattle.protocol.specs.Steps.{After, answers, takenWith, begins, deliver, closes, starts, takes, take, fault, lie, newView, givesUp, perform, step}
 use Rattle.protocol.specs.Chains.{enough}
@@ -137,13 +137,13 @@ pub begin-refuses : (c : Client) (kind value n : ℕ) → Refuses (4 ∷ []) (be
 unfolding begin
 begin-refuses c kind value n = refuses-guard _ _ _ _ refl (refuses-done _ _)
 
-pub close-refuses : (c : Client) (who : ℕ) (e : Entry) (n : ℕ) → Refuses (7 ∷ 11 ∷ []) (close c who e n)
+pub close-refuses : (c : Client) (who : ℕ) (e : Entry) (one : Bool) (n : ℕ) → Refuses (7 ∷ 11 ∷ []) (close c who e one n)
 unfolding close
-close-refuses c who e n = go (c .phase)
+close-refuses c who e one n = go (c .phase)
   where
-    go : (p : Phase) → Refuses (7 ∷ 11 ∷ []) (closeBy p c who e n)
+    go : (p : Phase) → Refuses (7 ∷ 11 ∷ []) (closeBy p c who e one n)
     go Idle = refuses-by _ 7 refl
-    go (Reading r) = refuses-guard _ _ _ _ refl (refuses-done _ _)
+    go (Reading r) = refuses-if _ (eqb (c .kind) READS && one) _ _ (refuses-done _ _) (refuses-guard _ _ _ _ refl (refuses-done _ _))
     go (Writing r) = refuses-done _ _
 
 pub call-refuses : (a : Administrator) (v : View) (n : ℕ) → Refuses (4 ∷ 8 ∷ []) (call a v n)
@@ -173,10 +173,10 @@ deliver-refuses w s n =
 abbrev takeNumbers : List ℕ
 takeNumbers = 5 ∷ 7 ∷ 11 ∷ 10 ∷ []
 
-closes-refuses : (w : World) (k c : ℕ) (e : Entry) → Refuses takeNumbers (closes w k c e)
+closes-refuses : (w : World) (k c : ℕ) (e : Entry) (one : Bool) → Refuses takeNumbers (closes w k c e one)
 unfolding closes
-closes-refuses w k c e =
-    refuses-then _ _ _ (refuses-more (7 ∷ 11 ∷ []) _ _ refl (close-refuses _ _ _ _))
+closes-refuses w k c e one =
+    refuses-then _ _ _ (refuses-more (7 ∷ 11 ∷ []) _ _ refl (close-refuses _ _ _ _ _))
     (λ x. refuses-if _ (x .complete) _ _ (refuses-done _ _) (refuses-guard _ _ _ _ refl (refuses-done _ _)))
 
 starts-refuses : (w : World) (k : ℕ) (e : Entry) → Refuses takeNumbers (starts w k e)
@@ -189,7 +189,7 @@ takes-refuses w k r t =
     refuses-if _ (eqb (message w r .kind) END) _ _
     (refuses-if _ (eqb t (newest w) && enough w t (takenWith w k) (writeSize (view w t))) _ _ (starts-refuses _ _ _) (refuses-done _ _))
     (refuses-if _ (enough w t (takenWith w k) (closeSize (client w (message w r .sender) .phase) (view w t))) _ _
-    (closes-refuses _ _ _ _) (refuses-done _ _))
+    (closes-refuses _ _ _ _ _) (refuses-done _ _))
 
 take-refuses : (w : World) (k : ℕ) → Refuses takeNumbers (take w k)
 unfolding take

@@ -10,6 +10,7 @@ use Rattle.protocol.specs.Types.{View}
 use Rattle.protocol.specs.Tools.{refused, done, guard}
 use Rattle.protocol.specs.Sizes.{quorum, quorumSize, size, sized, readSize, writeSize}
 use Rattle.protocol.specs.Laws.Tests.{and-right}
+use native.Mathlib.Nat.{le-refl}
 
 -- a size of document 01's list: n, f
 pub record Pair : Type 0 where
@@ -30,7 +31,12 @@ pub quorum-bounds : (n f : ℕ) → 3 * f + 1 ≤ n → (2 * f + 1 ≤ quorum n 
 unfolding quorum
 quorum-bounds n f h = omega arith
 
--- what the sizes of a view that obeys the rule promise: all that the proofs use of them
+-- as many answers close READ as WRITE, so that a read may end in one exchange
+pub covered : (v : View) → writeSize v ≤ readSize v
+unfolding readSize writeSize
+covered v = le-refl _
+
+-- what the sizes of a view that obeys the rule promise: with `covered` all that the proofs use of them
 pub record Sizes (v : View) : Type 0 where
   pub meet : size v + v .f + 1 ≤ readSize v + writeSize v
   pub twice : size v + v .f + 1 ≤ writeSize v + writeSize v

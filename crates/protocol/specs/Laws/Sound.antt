@@ -5,25 +5,25 @@ use native.Mathlib.Decide.{ℕ-discrete}
 use native.Mathlib.Numerals.{add-one}
 use native.Mathlib.Omega.{arith}
 use mathlib.Core.Bool.{Bool, true, false, _&&_}
-use mathlib.Core.Path.{_≡_, refl, ap, _∙_}
+use mathlib.Core.Path.{_≡_, refl, ap, _∙_, sym}
 use mathlib.Core.Logic.{_⊎_, inl, inr, _≢_}
 use mathlib.Core.List.{List, [], _∷_}
 use lib.ListN.{length, length-set}
 use lib.Dec.{eqb}
 use borrow.Author.Tests.{leb-true, eqb-true, eq-eqb, ne-eqb}
 use Rattle.protocol.specs.Types.{Entry, Message}
-use Rattle.protocol.specs.Tools.{if}
+use Rattle.protocol.specs.Tools.{if, all}
 use Rattle.protocol.specs.Sizes.{clients, servers, views, messages, sized}
-use Rattle.protocol.specs.Entries.{chosen}
+use Rattle.protocol.specs.Entries.{chosen, same}
 use Rattle.protocol.specs.Servers.{READ, END, ANSWER, isRequest}
 use Rattle.protocol.specs.Clients.{isEnding}
 use Rattle.protocol.specs.Worlds.{World, view, message, newest, withMessage, send}
-use Rattle.protocol.specs.Chains.{follow, chain, tagged, heard, enough, shown}
+use Rattle.protocol.specs.Chains.{follow, chain, tagged, heard, enough, shown, agreed}
 use Rattle.protocol.specs.Steps.{link, takenWith}
 use Rattle.protocol.specs.Laws.Tests.{and-left, and-right, clash, last-or, Each, none, both, any-found, within-true}
-use Rattle.protocol.specs.Laws.Entries.{Listed, head, tail, chosen-le, chosen-one}
+use Rattle.protocol.specs.Laws.Entries.{Listed, head, tail, chosen-le, chosen-one, same-is}
 use Rattle.protocol.specs.Laws.Worlds.{content, sent, message-same, message-other, sent-link, sent-send, message-send, message-new}
-use Rattle.protocol.specs.Laws.Change.{Votes, To, Chosen, Asked}
+use Rattle.protocol.specs.Laws.Change.{Votes, To, Chosen, Asked, Showed}
 
 -- message k is an answer to request r
 pub record Answer (w : World) (r k : ℕ) : Type 0 where
@@ -283,6 +283,12 @@ shower {w} t {P} {x} (both {k} {ks = js} h hs) i = go (tagged w t k) refl i (λ 
     go true e (tail j) ih = ih j
     go false e j ih = ih j
 
+-- a list whose entries are all e
+all-same : {e x : Entry} {l : List Entry} → all (same e) l ≡ true → Listed x l → e ≡ x
+unfolding all
+all-same {e} a (head {y} {xs} q) = same-is e y (and-left _ _ a) ∙ q
+all-same {e} a (tail {y} {xs} i) = all-same (and-right (same e y) _ a) i
+
 -- ---- a close
 
 -- the answer k, with view t, to request r, in a world whose links are sound
@@ -315,6 +321,26 @@ module _ {w : World} {k r t : ℕ} (h : Taking w k r t) where
               who = eqb-true _ _ (and-right (tagged w t (f .at)) _ (f .test));
               tag = eqb-true _ _ g;
               fact = record { request = f .has .0 .request; covered = chosen-le (f .has .1 g) };
+            };
+      }
+
+  -- where all of them show the chosen entry
+  pub close-agreed : (size : ℕ) → enough w t (takenWith w k) size ≡ true → agreed w t (takenWith w k) ≡ true → Votes w t size (λ s j. Showed w r (chosen (shown w t (takenWith w k))) j)
+  unfolding enough heard agreed sent content
+  close-agreed size e a =
+      record {
+        seen = heard w t (takenWith w k);
+        enough = leb-true _ _ e;
+        vote = λ s q.
+            let f = any-found (λ j. tagged w t j && eqb (message w j .sender) s) (each-both taken-each (shown-each w t (takenWith w k))) q in
+            let g = and-left (tagged w t (f .at)) _ (f .test) in
+            record {
+              at = f .at;
+              below = f .has .0 .below;
+              is = f .has .0 .is;
+              who = eqb-true _ _ (and-right (tagged w t (f .at)) _ (f .test));
+              tag = eqb-true _ _ g;
+              fact = record { request = f .has .0 .request; shows = sym (all-same a (f .has .1 g)) };
             };
       }
 

@@ -8,20 +8,21 @@ use mathlib.Core.Path.{_≡_, refl, sym, ap, _∙_, subst}
 use mathlib.Core.Logic.{_⊎_, inl, inr, _≢_}
 use lib.ListN.{length, List·getD-eq-default}
 use lib.Dec.{eqb}
-use borrow.Author.Tests.{ltb-true, eqb-true}
-use Rattle.protocol.specs.Types.{ViewNumber, Entry, View, Phase, Idle, Reading, Writing, Client, Administrator, Ending, Settled, EndSent, Message, Step}
+use borrow.Author.Tests.{ltb-true, eqb-true, eqb-false}
+use Rattle.protocol.specs.Types.{ViewNumber, MessageNumber, Entry, View, Phase, Idle, Reading, Writing, Client, Administrator, Ending, Settled, EndSent, Message, Step}
 use Rattle.protocol.specs.Tools.{if, nth, Result, refused, done, guard, passed}
 use Rattle.protocol.specs.Sizes.{clients, views, messages, sized, readSize, writeSize}
 use Rattle.protocol.specs.Entries.{entry, empty, chosen}
 use Rattle.protocol.specs.Servers.{READ, WRITE, END, START, ANSWER}
-use Rattle.protocol.specs.Clients.{WRITES, READS, number, isIdle, requestOf, begin, giveUp, closeSize, toWrite, givenBy, Close, closeBy, close, isEnding, endOf, call, advance}
+use Rattle.protocol.specs.Clients.{WRITES, READS, number, isIdle, requestOf, begin, giveUp, closeSize, toWrite, givenBy, Close, writeNext, completeWith, once, closeBy, close, isEnding, endOf, call, advance}
 use Rattle.protocol.specs.Worlds.{World, noClient, view, server, client, message, newest, present, room, withClient, withView, withMessage, withAdministrator, send, nextNumber}
-use Rattle.protocol.specs.Chains.{enough, shown}
+use Rattle.protocol.specs.Chains.{enough, shown, agreed}
 use Rattle.protocol.specs.Steps.{After, moved, request, begins, link, open?, takenWith, closes, starts, takes, take, newView, givesUp, deliver, fault, lie, fieldsFit, writeStep, readStep, deliverStep, takeStep, faultStep, falseStep, viewStep, giveUpStep, rowOf, viewAsked, step}
 use Rattle.protocol.specs.Laws.Tests.{and-left, and-right, or-cases, clash, within-true, went}
+use Rattle.protocol.specs.Laws.Sizes.{covered}
 use Rattle.protocol.specs.Laws.Worlds.{content, sent, sent-link, client-same, client-other, view-same, view-other, length-replace}
-use Rattle.protocol.specs.Laws.Change.{Votes, To, Chosen, Started, Closed, Kept, Acted, same, began, wrote, ended, gave-up, New, none as unsent}
-use Rattle.protocol.specs.Laws.Sound.{Sized, Sound, mail-same, mail-link, sized-same, sound-send, Taking, close-votes, close-chosen, link-count}
+use Rattle.protocol.specs.Laws.Change.{Votes, To, Chosen, Started, Closed, Kept, Agreed, Acted, same, exchanged, began, wrote, ended, gave-up, New, none as unsent}
+use Rattle.protocol.specs.Laws.Sound.{Sized, Sound, mail-same, mail-link, sized-same, sound-send, Taking, close-votes, close-agreed, close-chosen, link-count}
 use Rattle.protocol.specs.Laws.Kinds.{IsClient, client-of, server-of, by-kind}
 use Rattle.protocol.specs.Laws.Moves.{done-is, apart, is-done, grew-refl, Post, post, posted, quiet, idle-acted, room-left, present-is, Lawful, fault-lawful, deliver-lawful, lie-lawful}
 
@@ -215,6 +216,24 @@ module _ {w : World} (h : Sound w) {k r t : ℕ} (y : Taking w k r t) where
             (ap (λ (b : Client). b .given) turned-client ∙ g) v)
         go x l (no z) = same (turned-other x z) (λ n. z (sym n)) (λ n. omega arith)
 
+    -- a READ phase of a read whose answers agree: its operation is complete
+    exchanged-lawful : (q : ℕ) → client w c .phase ≡ Reading (number q) → client w c .kind ≡ READS → a .phase ≡ Idle → a .given ≡ client w c .given → Agreed w q (a .entry)
+        → (kind : ℕ) → Lawful w turned c 0 kind
+    exchanged-lawful q p r f g v kind =
+        record {
+          sound = client-sound link-sound c a;
+          moved = record {
+            change = record { old = λ j l. turned-sent j; posted = unsent turned-used turned-newest; views = λ t l. turned-view t; grew = λ s. rw (turned-server s) (grew-refl (server w s)) };
+            acted = λ x l. go x l (ℕ-discrete x c);
+          };
+        }
+      where
+        go : (x : ℕ) → 1 ≤ x → Dec (x ≡ c) → Acted w turned c 0 kind x
+        go x l (yes z) =
+            rw z (exchanged q refl (λ n. omega (arith, i .low)) p r (ap (λ (b : Client). b .phase) turned-client ∙ f) (ap (λ (b : Client). b .given) turned-client ∙ g)
+            (subst (λ (b : Client). Agreed w q (b .entry)) (sym turned-client) v))
+        go x l (no z) = same (turned-other x z) (λ n. z (sym n)) (λ n. omega arith)
+
     -- a READ phase: its WRITE is sent
     module _ (l : w .used < messages) (q : ℕ) (e : Entry) (p : client w c .phase ≡ Reading (number q)) (f : a .phase ≡ Writing (number (w .used + 1))) (b : a .kind ≡ client w c .kind)
         (d : a .entry ≡ toWrite (client w c) c e) (g : a .given ≡ givenBy (client w c) e) (vs : Votes w t (readSize (view w t)) (λ s j. To w q e j)) (ch : Chosen w t q e) where
@@ -344,10 +363,10 @@ module _ {w : World} (h : Sound w) {k r t : ℕ} (y : Taking w k r t) where
         }
 
   -- a phase of client c closes with the chosen entry
-  closes-lawful : (c : ℕ) → requestOf (client w c .phase) ≡ r → enough w t (takenWith w k) (closeSize (client w c .phase) (view w t)) ≡ true
-      → (a : After) → closes w k c (chosen (shown w t (takenWith w k))) ≡ done a → (kind : ℕ) → Lawful w (a .world) (a .completed) 0 kind
+  closes-lawful : (c : ℕ) → (sent w r .kind ≡ END → ⊥) → requestOf (client w c .phase) ≡ r → enough w t (takenWith w k) (closeSize (client w c .phase) (view w t)) ≡ true
+      → (a : After) → closes w k c (chosen (shown w t (takenWith w k))) (agreed w t (takenWith w k)) ≡ done a → (kind : ℕ) → Lawful w (a .world) (a .completed) 0 kind
   unfolding closes close
-  closes-lawful c o en a e kind =
+  closes-lawful c ne o en a e kind =
       let g = went _ _ _ e in
       go (client w c .phase) refl o en (g .value) (g .is) (g .on)
     where
@@ -360,18 +379,39 @@ module _ {w : World} (h : Sound w) {k r t : ℕ} (y : Taking w k r t) where
       as-number : {q r : ℕ} → q ≡ r → number q ≡ number r
       as-number q = ap number q
 
-      go : (p : Phase) → client w c .phase ≡ p → requestOf p ≡ r → enough w t (takenWith w k) (closeSize p (view w t)) ≡ true → (x : Close) → closeBy p (client w c) c e′ (nextNumber w) ≡ done x
+      writes : {q : MessageNumber} → client w c .phase ≡ Reading q → q .0 ≡ r → enough w t (takenWith w k) (readSize (view w t)) ≡ true → (x : Close)
+          → writeNext (client w c) c e′ (nextNumber w) ≡ done x
           → if (x .complete) (done (record { world = withClient (link w k) c (x .client); completed = c }))
           (guard (room w) 10 (moved (send (withClient (link w k) c (x .client)) (request WRITE c 0 (x .client .entry))))) ≡ done a
           → Lawful w (a .world) (a .completed) 0 kind
-      go Idle p o en x f e = refused-done f
-      go (Reading q) p o en x f e =
+      writes p o en x f e =
           let (u, f1) = passed _ _ _ _ f in
           let d = is-done f1 in
           let (l, e1) = passed _ _ _ _ (rw (ap (λ (z : Close). z .complete) d) at e) in
           subst (λ (z : After). Lawful w (z .world) (z .completed) 0 kind) (done-is e1)
           (wrote-lawful i (x .client) (room-left w l) r e′ (p ∙ ap Reading (as-number o)) (ap (λ (z : Close). z .client .phase) d) (ap (λ (z : Close). z .client .kind) d)
           (ap (λ (z : Close). z .client .entry) d) (ap (λ (z : Close). z .client .given) d) (close-votes y _ en) (close-chosen y) kind)
+
+      go : (p : Phase) → client w c .phase ≡ p → requestOf p ≡ r → enough w t (takenWith w k) (closeSize p (view w t)) ≡ true → (x : Close)
+          → closeBy p (client w c) c e′ (agreed w t (takenWith w k)) (nextNumber w) ≡ done x → if (x .complete) (done (record { world = withClient (link w k) c (x .client); completed = c }))
+          (guard (room w) 10 (moved (send (withClient (link w k) c (x .client)) (request WRITE c 0 (x .client .entry))))) ≡ done a
+          → Lawful w (a .world) (a .completed) 0 kind
+      go Idle p o en x f e = refused-done f
+      go (Reading q) p o en x f e = either (once (client w c) (agreed w t (takenWith w k))) refl f
+        where
+          exchange : (once (client w c) (agreed w t (takenWith w k))) ≡ true → x ≡ completeWith (client w c) e′
+              → Lawful w (a .world) (a .completed) 0 kind
+          exchange b d =
+              subst (λ (z : After). Lawful w (z .world) (z .completed) 0 kind) (done-is (rw (ap (λ (z : Close). z .complete) d) at e))
+              (exchanged-lawful i (x .client) r (p ∙ ap Reading (as-number o)) (eqb-true _ _ (and-left _ _ b)) (ap (λ (z : Close). z .client .phase) d) (ap (λ (z : Close). z .client .given) d)
+              (subst (Agreed w r) (sym (ap (λ (z : Close). z .client .entry) d))
+              (record { tag = t; votes = close-agreed y _ en (and-right (eqb (client w c .kind) READS) _ b); covers = covered (view w t); chosen = close-chosen y; other = ne })) kind)
+
+          either : (b : Bool) → (once (client w c) (agreed w t (takenWith w k))) ≡ b
+              → if b (done (completeWith (client w c) e′)) (writeNext (client w c) c e′ (nextNumber w)) ≡ done x
+              → Lawful w (a .world) (a .completed) 0 kind
+          either true b f = exchange b (is-done f)
+          either false b f = writes p o en x f e
       go (Writing q) p o en x f e =
           let d = is-done f in
           subst (λ (z : After). Lawful w (z .world) (z .completed) 0 kind) (done-is (rw (ap (λ (z : Close). z .complete) d) at e))
@@ -397,7 +437,7 @@ module _ {w : World} (h : Sound w) {k r t : ℕ} (y : Taking w k r t) where
       chosen-newest {u} {x} q c = subst (λ (n : ℕ). Chosen w n r x) q c
 
   takes-lawful : open? w r ≡ true → (a : After) → takes w k r t ≡ done a → (kind : ℕ) → Lawful w (a .world) (a .completed) 0 kind
-  unfolding takes open?
+  unfolding takes open? sent content
   takes-lawful o a e kind = go (eqb (message w r .kind) END) refl o e
     where
       stays : moved (link w k) ≡ done a → Lawful w (a .world) (a .completed) 0 kind
@@ -408,17 +448,17 @@ module _ {w : World} (h : Sound w) {k r t : ℕ} (y : Taking w k r t) where
       ends z o true b e = starts-lawful z o (eqb-true _ _ (and-left _ _ b)) (and-right (eqb t (newest w)) _ b) a e kind
       ends z o false b e = stays e
 
-      closing : requestOf (client w (message w r .sender) .phase) ≡ r → (b : Bool) → enough w t (takenWith w k) (closeSize (client w (message w r .sender) .phase) (view w t)) ≡ b
-          → if b (closes w k (message w r .sender) (chosen (shown w t (takenWith w k)))) (moved (link w k)) ≡ done a → Lawful w (a .world) (a .completed) 0 kind
-      closing o true b e = closes-lawful (message w r .sender) o b a e kind
-      closing o false b e = stays e
+      closing : (message w r .kind ≡ END → ⊥) → requestOf (client w (message w r .sender) .phase) ≡ r → (b : Bool) → enough w t (takenWith w k) (closeSize (client w (message w r .sender) .phase) (view w t)) ≡ b
+          → if b (closes w k (message w r .sender) (chosen (shown w t (takenWith w k))) (agreed w t (takenWith w k))) (moved (link w k)) ≡ done a → Lawful w (a .world) (a .completed) 0 kind
+      closing n o true b e = closes-lawful (message w r .sender) n o b a e kind
+      closing n o false b e = stays e
 
       go : (b : Bool) → eqb (message w r .kind) END ≡ b → if b (eqb (endOf (w .administrator .ending)) r) (eqb (requestOf (client w (message w r .sender) .phase)) r) ≡ true
           → if b (if (eqb t (newest w) && enough w t (takenWith w k) (writeSize (view w t))) (starts w k (chosen (shown w t (takenWith w k)))) (moved (link w k)))
-          (if (enough w t (takenWith w k) (closeSize (client w (message w r .sender) .phase) (view w t))) (closes w k (message w r .sender) (chosen (shown w t (takenWith w k)))) (moved (link w k))) ≡ done a
+          (if (enough w t (takenWith w k) (closeSize (client w (message w r .sender) .phase) (view w t))) (closes w k (message w r .sender) (chosen (shown w t (takenWith w k))) (agreed w t (takenWith w k))) (moved (link w k))) ≡ done a
           → Lawful w (a .world) (a .completed) 0 kind
       go true b o e = ends (eqb-true _ _ b) (eqb-true _ _ o) _ refl e
-      go false b o e = closing (eqb-true _ _ o) _ refl e
+      go false b o e = closing (eqb-false _ _ b) (eqb-true _ _ o) _ refl e
 
 -- "Take": accepted
 pub take-lawful : {w : World} → Sound w → (k : ℕ) (a : After) → take w k ≡ done a → (kind : ℕ) → Lawful w (a .world) (a .completed) 0 kind

@@ -1,33 +1,35 @@
+use mathlib.Core.Path.{sym, _∙_}
 use borrow.Author.Needs.{needs}
+use borrow.Author.Tests.{not-true, not-false}
 use Rattle.checked.proofs.rules.next_fits.Statement.{statement}
 use Rattle.checked.proofs.rules.next_fits.Tie as tie
 
-enum-told : tie.Need-enum-told
-enum-told c = search needs
-
-enum-told-2 : tie.Need-enum-told-2
-enum-told-2 c = search needs
-
-number-fits-requires : tie.Need-number-fits-requires
-number-fits-requires c κs = search needs
-
-enum-told-3 : tie.Need-enum-told-3
-enum-told-3 c = search needs
+is-reading-requires : tie.Need-is-reading-requires
+is-reading-requires c κs = search needs
 
 returns : tie.Need-returns
-returns c = search needs
+returns c = simp (sym (c .before .is-reading .ensures) ∙ not-true _ (c .if1 .taken))
+
+once-requires : tie.Need-once-requires
+once-requires c κs = search needs
 
 returns-2 : tie.Need-returns-2
 returns-2 c =
     simp (
-      c .number-fits .ensures,
-      c .before .enum-told2 .given .1,
+      sym (c .before .once .ensures) ∙ c .if2 .taken,
+      sym (c .before .before .before .is-reading .ensures) ∙ not-false _ (c .before .before .if1 .left),
     )
 
+number-fits-requires : tie.Need-number-fits-requires
+number-fits-requires c κs = search needs
+
 returns-3 : tie.Need-returns-3
-returns-3 c = search needs
+returns-3 c =
+    simp (
+      c .number-fits .ensures,
+      sym (c .before .before .once .ensures) ∙ c .before .if2 .left,
+      sym (c .before .before .before .before .is-reading .ensures) ∙ not-false _ (c .before .before .before .if1 .left),
+    )
 
 pub next-fits-spec : {M : Type 1} → statement M
-next-fits-spec =
-    tie.close
-    (tie.spec enum-told enum-told-2 number-fits-requires enum-told-3 returns returns-2 returns-3)
+next-fits-spec = tie.close (tie.spec is-reading-requires returns once-requires returns-2 number-fits-requires returns-3)

@@ -15,8 +15,8 @@ close-read-requires c κs = search needs
 enum-told-3 : tie.Need-enum-told-3
 enum-told-3 c = search needs
 
-close-write-requires : tie.Need-close-write-requires
-close-write-requires c κs = search needs
+complete-requires : tie.Need-complete-requires
+complete-requires c κs = search needs
 
 returns : tie.Need-returns
 unfolding close
@@ -34,7 +34,7 @@ returns-3 : tie.Need-returns-3
 unfolding close
 returns-3 c =
     simp (
-      c .close-write .ensures,
+      c .complete .ensures,
       c .before .enum-told3 .given .1,
     )
 
@@ -46,7 +46,7 @@ close-spec =
     enum-told-2
     close-read-requires
     enum-told-3
-    close-write-requires
+    complete-requires
     returns
     returns-2
     returns-3)

@@ -1,31 +1,22 @@
 use mathlib.Core.Path.{sym, _∙_}
 use borrow.Author.Needs.{needs}
-use borrow.Author.Tests.{not-true, not-false}
-use Rattle.protocol.specs.Tools.{guard}
 use Rattle.machines.proofs.clients.close_read.Statement.{statement}
 use Rattle.machines.proofs.clients.close_read.Tie as tie
 
-count-left-requires : tie.Need-count-left-requires
-count-left-requires c κs = search needs
+once-requires : tie.Need-once-requires
+once-requires c κs = search needs
+
+complete-requires : tie.Need-complete-requires
+complete-requires c κs = search needs
 
 returns : tie.Need-returns
-unfolding guard
-returns c = simp (sym (c .before .count-left .ensures) ∙ not-true (c .before .count-left .result) (c .if1 .taken))
+returns c = simp (c .complete .ensures, sym (c .before .before .once .ensures) ∙ c .before .if1 .taken)
 
-to-write-requires : tie.Need-to-write-requires
-to-write-requires c κs = sym (c .before .count-left .ensures) ∙ not-false (c .before .count-left .result) (c .if1 .left)
-
-given-by-requires : tie.Need-given-by-requires
-given-by-requires c κs = sym (c .before .before .count-left .ensures) ∙ not-false (c .before .before .count-left .result) (c .before .if1 .left)
+write-next-requires : tie.Need-write-next-requires
+write-next-requires c κs = search needs
 
 returns-2 : tie.Need-returns-2
-unfolding guard
-returns-2 c =
-    simp (
-      c .given-by .ensures,
-      c .before .to-write .ensures,
-      sym (c .before .before .before .count-left .ensures) ∙ not-false (c .before .before .before .count-left .result) (c .before .before .if1 .left),
-    )
+returns-2 c = simp (c .write-next .ensures, sym (c .before .before .once .ensures) ∙ c .before .if1 .left)
 
 pub close-read-spec : {M : Type 1} → statement M
-close-read-spec = tie.close (tie.spec count-left-requires returns to-write-requires given-by-requires returns-2)
+close-read-spec = tie.close (tie.spec once-requires complete-requires returns write-next-requires returns-2)

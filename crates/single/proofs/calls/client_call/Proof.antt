@@ -71,12 +71,15 @@ shared-slice-read-client-rule c = search needs
 shared-slice-read-client-rule-2 : tie.Need-shared-slice-read-client-rule-2
 shared-slice-read-client-rule-2 c = search needs
 
+shared-slice-read-client-rule-3 : tie.Need-shared-slice-read-client-rule-3
+shared-slice-read-client-rule-3 c = search needs
+
 client-rule-requires : tie.Need-client-rule-requires
 client-rule-requires c κs = search needs
 
 returns-5 : tie.Need-returns-5
 unfolding clientCall guard part
-returns-5 c = rw (eq-eqb _ _ (c .before .before .before .before .before .before .before .before .before .before .before .before .before .if1 .left), eq-eqb _ _ (c .before .before .before .before .before .before .before .before .before .before .before .before .if2 .left), (sym (c .before .before .before .before .before .before .before .before .before .before .before .client-plain .ensures) ∙ not-false _ (c .before .before .before .before .before .before .before .before .before .before .if3 .left)), (sym (c .before .before .before .before .before .before .before .before .entry-plain .ensures) ∙ not-false _ (c .before .before .before .before .before .before .before .if4 .left))) (c .client-rule .ensures ∙ rw (c .before .before .before .before .before .before .read-client .ensures, c .before .before .before .before .read-entry .ensures, c .before .before .before .get16 .ensures) refl)
+returns-5 c = rw (eq-eqb _ _ (c .before .before .before .before .before .before .before .before .before .before .before .before .before .before .if1 .left), eq-eqb _ _ (c .before .before .before .before .before .before .before .before .before .before .before .before .before .if2 .left), (sym (c .before .before .before .before .before .before .before .before .before .before .before .before .client-plain .ensures) ∙ not-false _ (c .before .before .before .before .before .before .before .before .before .before .before .if3 .left)), (sym (c .before .before .before .before .before .before .before .before .before .entry-plain .ensures) ∙ not-false _ (c .before .before .before .before .before .before .before .before .if4 .left))) (c .client-rule .ensures ∙ rw (c .before .before .before .before .before .before .before .read-client .ensures, c .before .before .before .before .before .read-entry .ensures, c .before .before .before .before .get16 .ensures) refl)
 
 pub client-call-spec : {M : Type 1} → statement M
-client-call-spec = tie.close (tie.spec returns add-if2 returns-2 client-plain-requires returns-3 add-entry-plain sub-entry-plain part-entry-plain-start part-entry-plain-end entry-plain-requires returns-4 read-client-requires add-read-entry sub-read-entry part-read-entry-start part-read-entry-end read-entry-requires get16-requires shared-slice-read-client-rule shared-slice-read-client-rule-2 client-rule-requires returns-5)
+client-call-spec = tie.close (tie.spec returns add-if2 returns-2 client-plain-requires returns-3 add-entry-plain sub-entry-plain part-entry-plain-start part-entry-plain-end entry-plain-requires returns-4 read-client-requires add-read-entry sub-read-entry part-read-entry-start part-read-entry-end read-entry-requires get16-requires shared-slice-read-client-rule shared-slice-read-client-rule-2 shared-slice-read-client-rule-3 client-rule-requires returns-5)

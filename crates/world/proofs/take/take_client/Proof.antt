@@ -26,8 +26,8 @@ taken-with-requires c κs =
     let c1 = c .before .before .before .before .before .before .before .before .before .before in
     c1 .pre .0
 
-enum-known-e : tie.Need-enum-known-e
-enum-known-e c = search needs
+enum-known-x : tie.Need-enum-known-x
+enum-known-x c = search needs
 
 enum-told : tie.Need-enum-told
 enum-told c = search needs
@@ -77,7 +77,7 @@ returns-2 c =
     let p = c7 .pre in
     let s = size-known (p .0) (a .c) (p .1) (p .2) _ _ _ _ (c6 .load-message .ensures) (c5 .load-view .ensures) (c4 .load-client .ensures) (c3 .close-size .ensures) in
     by
-    (client-closed (decode (a .image .now)) (a .k .0) (c2 .taken-with .result) (c3 .close-size .result) (c2 .taken-with .ensures) (a .c) s _ (c1 .e .given .1))
+    (client-closed (decode (a .image .now)) (a .k .0) (c2 .taken-with .result) (c3 .close-size .result) (c2 .taken-with .ensures) (a .c) s _ (c1 .x .given .1))
     (c .before .before .close-client .ensures)
 
 pub take-client-spec : {M : Type 1} → statement M
@@ -89,7 +89,7 @@ take-client-spec =
     load-client-requires
     close-size-requires
     taken-with-requires
-    enum-known-e
+    enum-known-x
     enum-told
     link-requires
     same-length

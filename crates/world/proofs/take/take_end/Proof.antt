@@ -52,8 +52,8 @@ taken-with-requires c κs =
     let c1 = c .before .before .before .before .before .before .before .before .before .before .before .before .before .before in
     c1 .pre .0
 
-enum-known-e : tie.Need-enum-known-e
-enum-known-e c = search needs
+enum-known-x : tie.Need-enum-known-x
+enum-known-x c = search needs
 
 enum-told : tie.Need-enum-told
 enum-told c = search needs
@@ -109,7 +109,7 @@ returns-3 c =
     let t = ap (λ (x : Message). x .view .0) (answer-is h _ (c7 .load-message .ensures)) in
     let n = ap (λ (x : Administrator). x .newest .0) (c6 .load-administrator .ensures ∙ administrator-is (h .legible)) in
     let s = c3 .write-size .ensures ∙ ap writeSize (view-known h _ (c7 .load-message .ensures) _ (c4 .load-view .ensures)) in
-    by (end-closed w (a .k .0) (c2 .taken-with .result) (c3 .write-size .result) (c2 .taken-with .ensures) (sym t ∙ c5 .if1 .left ∙ n) s _ (c1 .e .given .1))
+    by (end-closed w (a .k .0) (c2 .taken-with .result) (c3 .write-size .result) (c2 .taken-with .ensures) (sym t ∙ c5 .if1 .left ∙ n) s _ (c1 .x .given .1))
     (c .before .before .start-view .ensures)
 
 pub take-end-spec : {M : Type 1} → statement M
@@ -124,7 +124,7 @@ take-end-spec =
     load-view-requires
     write-size-requires
     taken-with-requires
-    enum-known-e
+    enum-known-x
     enum-told
     link-requires-2
     same-length-2

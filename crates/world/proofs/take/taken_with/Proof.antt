@@ -23,7 +23,7 @@ gather-requires : tie.Need-gather-requires
 gather-requires c κs =
     let c1 = c .before .before .before .before .before .before in
     let s = c1 .before .before in
-    (head-walk (s .pre) _ (c1 .load-message .ensures) _ (c .before .before .before .load-message2 .ensures), omega (arith, c .gathered .ensures .1, answer-low (s .pre)))
+    (head-walk (s .pre) _ (c1 .load-message .ensures) _ (c .before .before .before .load-message2 .ensures), omega (arith, c .gathered .ensures .answer, answer-low (s .pre)))
 
 opened-requires : tie.Need-opened-requires
 opened-requires c κs = (c .before .before .before .before .before .before .before .before .before .pre .legible .size, c .gather .ensures .low)
