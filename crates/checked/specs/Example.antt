@@ -7,7 +7,7 @@ use Rattle.checked.specs.Types.{Entry, Server, Phase, Idle, Reading, Wri
 use Rattle.protocol.specs.Tools.{countTo, holds, bitOf, Result, refused, done, guard}
 use Rattle.protocol.specs.Sizes.{quorum, size, sized, writeSize, viewWith}
 use Rattle.protocol.specs.Entries.{entry, empty, below, larger, same, entryFits}
-use Rattle.protocol.specs.Servers.{READ, WRITE, END, START, ANSWER, Reply, keeping, withoutKey, joining, serve}
+use Rattle.protocol.specs.Servers.{READ, WRITE, END, START, ANSWER, Reply, comparing, replacing, withoutKey, joining, serve}
 use Rattle.protocol.specs.Readable.{clientRange}
 use Rattle.protocol.specs.Clients.{NONE, WRITES, READS, number, begin, nextCount, toWrite, givenBy, countLeft, close, call, advance}
 use Rattle.values.specs.Bits.{bitIn}
@@ -70,7 +70,7 @@ unfolding client closeRule guard clientInRange clientRange entryFits numberFits 
 write-next = refl
 
 write-served : serveRule (server 1 1 empty) (request WRITE 1 0 (entry 1 1 7)) false ≡ answers (server 1 1 (entry 1 1 7)) 1 (entry 1 1 7)
-unfolding server request answers serveRule guard serverInRange messageInRange entryFits same bitOf serve holds keeping larger below
+unfolding server request answers serveRule guard serverInRange messageInRange entryFits same bitOf serve holds comparing replacing below
 write-served = refl
 
 write-complete : closeRule (client (Writing (number 3)) WRITES (entry 1 1 7) 1) 1 (entry 1 1 7) false 5

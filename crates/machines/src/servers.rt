@@ -2,6 +2,7 @@
 use protocol::Entry;
 use protocol::KeySet;
 use protocol::Message;
+use protocol::Replied;
 use protocol::Served;
 use protocol::Server;
 use protocol::Shown;
@@ -16,11 +17,11 @@ use values::sets;
 ghost use mathlib.Core.Path.{_≡_};
 ghost use Prim.Native.Nat.{_≤_};
 ghost use Rattle.protocol.specs.Tools.{numberOf};
-ghost use Rattle.protocol.specs.Servers.{keeping, withoutKey, joining, gathering, start, served, mayAnswer};
-ghost use Rattle.machines.specs.Servers.{shownBy, answered, serveIn, after};
+ghost use Rattle.protocol.specs.Servers.{comparing, replacing, acknowledging, withoutKey, joining, gathering, write, start, asReply, served, mayAnswer};
+ghost use Rattle.machines.specs.Servers.{shownBy, answered, serveIn, entering, replying};
 
 // What a server answers with: its view and entry.
-pub fn shown_by(a: Server) -> Shown
+fn shown_by(a: Server) -> Shown
     ensures { λ r. ⌜ r ≡ shownBy a ⌝ }
 {
     let view = a.view;
@@ -31,20 +32,48 @@ pub fn shown_by(a: Server) -> Shown
     }
 }
 
-// It keeps the larger stamp of its own and the written entry, its own where they are equal.
-pub fn keeping(a: Server, e: Entry) -> Server
-    ensures { λ r. ⌜ r ≡ keeping a e ⌝ }
+// WRITE, compare: whether the stamp held is below the written one.
+fn comparing(a: Server, e: Entry) -> bool
+    ensures { λ r. ⌜ r ≡ comparing a e ⌝ }
+{
+    let own = a.entry;
+    entries::below(own, e)
+}
+
+// WRITE, replace: where it is, the written entry is held.
+fn replacing(a: Server, e: Entry, later: bool) -> Server
+    ensures { λ r. ⌜ r ≡ replacing a e later ⌝ }
 {
     let view = a.view;
     let keys = a.keys;
     let own = a.entry;
-    let kept = entries::larger(own, e);
+    let held = entries::either(later, e, own);
     Server {
         view: view,
         faulty: a.faulty,
         keys: keys,
-        entry: kept,
+        entry: held,
     }
+}
+
+// WRITE, acknowledge: it answers with the view and entry that it holds now.
+fn acknowledging(a: Server) -> Replied
+    ensures { λ r. ⌜ asReply r ≡ acknowledging a ⌝ }
+{
+    let shown = shown_by(a);
+    Replied {
+        server: a,
+        shown: shown,
+    }
+}
+
+// WRITE, in the sequence of document 000: compare the held stamp, replace, acknowledge.
+fn write(a: Server, e: Entry) -> Replied
+    ensures { λ r. ⌜ asReply r ≡ write a e ⌝ }
+{
+    let later = comparing(a, e);
+    let b = replacing(a, e, later);
+    acknowledging(b)
 }
 
 // It gives the key up.
@@ -169,28 +198,40 @@ pub fn refuses(a: Server, m: Message, member: bool) -> u8
     request_refuses(a, m)
 }
 
-// The server's record after a message that its rule does not refuse; a view over 32 changes nothing.
-pub fn after(a: Server, m: Message) -> Server
-    ensures { λ r. ⌜ r ≡ after a m ⌝ }
+// START, not refused: a faulty server gathers the key, a correct one joins the view; a view over 32 changes nothing.
+pub fn entering(a: Server, m: Message) -> Server
+    ensures { λ r. ⌜ r ≡ entering a m ⌝ }
 {
     let asked = m.view;
-    let kind = m.kind;
     if VIEWS < asked.0 {
         return a;
-    }
-    if kind == READ {
-        return a;
-    }
-    if kind == WRITE {
-        return keeping(a, m.entry);
-    }
-    if kind == END {
-        return without_key(a);
     }
     if a.faulty {
         return gathering(a, m);
     }
     joining(a, m)
+}
+
+// READ, WRITE, or any other kind as END, not refused: the server's record after it, and its answer.
+pub fn replying(a: Server, m: Message) -> Replied
+    ensures { λ r. ⌜ asReply r ≡ replying a m ⌝ }
+{
+    let kind = m.kind;
+    if kind == WRITE {
+        return write(a, m.entry);
+    }
+    let shown = shown_by(a);
+    if kind == READ {
+        return Replied {
+            server: a,
+            shown: shown,
+        };
+    }
+    let b = without_key(a);
+    Replied {
+        server: b,
+        shown: shown,
+    }
 }
 
 // A message reaches a server: its record after it, and what it answers. START has no answer.
@@ -201,11 +242,13 @@ pub fn serve(a: Server, m: Message, member: bool) -> Served
     if refusal != 0 {
         return Served::ServeRefused(refusal);
     }
-    let b = after(a, m);
     if m.kind == START {
-        return Served::Kept(b);
+        return Served::Kept(entering(a, m));
     }
-    Served::Answered(b, shown_by(b))
+    let replied = replying(a, m);
+    let b = replied.server;
+    let shown = replied.shown;
+    Served::Answered(b, shown)
 }
 
 // Whether a faulty server may answer a request with view t: 0, or the refusal. 5, no request, or source, which says whether the

@@ -27,7 +27,7 @@ use Rattle.protocol.specs.declared.Ending.the-variants.{Settled, EndSent}
 use Rattle.protocol.specs.Tools.{if, within, all, holds, bitOf, Result, refused, done, guard, passed}
 use Rattle.protocol.specs.Sizes.{clients, servers, views, messages, lastCount, sized, writeSize}
 use Rattle.protocol.specs.Entries.{entry, empty, countOf, writerOf, larger, chosen, same, entryFits}
-use Rattle.protocol.specs.Servers.{READ, WRITE, END, START, ANSWER, isRequest, Reply, keeping, withoutKey, joining, gathering, mayAnswer}
+use Rattle.protocol.specs.Servers.{READ, WRITE, END, START, ANSWER, isRequest, Reply, comparing, replacing, withoutKey, joining, gathering, mayAnswer}
 use Rattle.protocol.specs.Clients.{NONE, WRITES, READS, number, begin, closeSize, nextCount, toWrite, givenBy, countLeft, giveUp, Close, writeNext, completeWith, once, closeBy, close, isEnding, endOf, requestOf, call, advance}
 use Rattle.protocol.specs.Worlds.{World, view, server, client, message, newest, member, present, room, withServer, withClient, withView, withMessage, withAdministrator, send, nextNumber}
 use Rattle.protocol.specs.Chains.{chain, tagged, enough, shown, agreed}
@@ -135,13 +135,13 @@ answer-fits w s n x i l u q e = and-both _ _ (is-within 1 servers s (i .low) (i 
 asks : (w : World) (n : ℕ) → present w n ≡ true → isRequest (message w n .kind) ≡ true → (present w n && isRequest (message w n .kind)) ≡ true
 asks w n p k = and-both _ _ p k
 
-keeping-low : (a : Server) (e : Entry) → 1 ≤ a .view .0 → 1 ≤ keeping a e .view .0
-unfolding keeping
-keeping-low a e l = l
+replacing-low : (a : Server) (e : Entry) (b : Bool) → 1 ≤ a .view .0 → 1 ≤ replacing a e b .view .0
+unfolding replacing
+replacing-low a e b l = l
 
-keeping-high : (n : ℕ) (a : Server) (e : Entry) → a .view .0 ≤ n → keeping a e .view .0 ≤ n
-unfolding keeping
-keeping-high n a e l = l
+replacing-high : (n : ℕ) (a : Server) (e : Entry) (b : Bool) → a .view .0 ≤ n → replacing a e b .view .0 ≤ n
+unfolding replacing
+replacing-high n a e b l = l
 
 source-fits : {w : World} → Formed w → (source : ℕ) → source? w source ≡ true → entryFits (if (eqb source 0) empty (message w source .entry)) ≡ true
 unfolding source? entryFits
@@ -165,9 +165,13 @@ module _ {w : World} (h : Formed w) {s : ℕ} (i : IsServer s) where
       subst (λ (y : After). Formed (y .world)) (done-is d1)
       (formed-send (formed-server h s (i .low) (i .high) b (is-served (newest w) b k)) (answer s n x) (room-left w p) (answer-fits (withServer w s b) s n x i l u q e) refl refl)
 
-  keeping-serves : (a : Server) (e : Entry) → Serves (newest w) a → entryFits e ≡ true → Serves (newest w) (keeping a e)
-  unfolding keeping
-  keeping-serves a e k f = record { view = k .view; keys = k .keys; own = k .own; entry = fits-larger (a .entry) e (k .entry) f }
+  replacing-serves : (a : Server) (e : Entry) (b : Bool) → Serves (newest w) a → entryFits e ≡ true → Serves (newest w) (replacing a e b)
+  unfolding replacing
+  replacing-serves a e b k f = record { view = k .view; keys = k .keys; own = k .own; entry = go b }
+    where
+      go : (b : Bool) → entryFits (if b e (a .entry)) ≡ true
+      go true = f
+      go false = k .entry
 
   withoutKey-serves : (a : Server) → Serves (newest w) a → Serves (newest w) (withoutKey a)
   unfolding withoutKey
@@ -214,14 +218,11 @@ module _ {w : World} (h : Formed w) {s : ℕ} (i : IsServer s) where
       go p r y (reads c q d) e = let b = bounds q in answered _ n _ k (b .0) (b .1) (asks w n p (rw c refl)) (k .entry) a (rw d at e)
       go p r y (writes c q d) e =
           let b = bounds q in
-          let x = keeping-serves (server w s) (message w n .entry) k (mailed h n (r .0) (r .1) .entry) in
-          answered _ n _ x (low b) (high b) (asks w n p (rw c refl)) (x .entry) a (rw d at e)
+          let x = replacing-serves (server w s) (message w n .entry) later k (mailed h n (r .0) (r .1) .entry) in
+          answered _ n _ x (replacing-low (server w s) (message w n .entry) later (b .0)) (replacing-high (newest w) (server w s) (message w n .entry) later (b .1)) (asks w n p (rw c refl)) (x .entry) a (rw d at e)
         where
-          low : (1 ≤ server w s .view .0) × (server w s .view .0 ≤ newest w) → 1 ≤ keeping (server w s) (message w n .entry) .view .0
-          low b = keeping-low (server w s) (message w n .entry) (b .0)
-
-          high : (1 ≤ server w s .view .0) × (server w s .view .0 ≤ newest w) → keeping (server w s) (message w n .entry) .view .0 ≤ newest w
-          high b = keeping-high (newest w) (server w s) (message w n .entry) (b .1)
+          later : Bool
+          later = comparing (server w s) (message w n .entry)
       go p r y (ends c f q d) e = let b = bounds q in answered _ n _ (withoutKey-serves (server w s) k) (b .0) (b .1) (asks w n p (rw c refl)) (k .entry) a (rw d at e)
       go p r y (joins c t l f d) e =
           let m = mailed h n (r .0) (r .1) in

@@ -8,6 +8,7 @@ pub mod Worlds
 pub mod Chains
 pub mod Readable
 pub mod Steps
+pub mod FormerWrite
 pub mod Consistent
 pub mod Refuted
 pub mod Runs

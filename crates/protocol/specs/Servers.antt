@@ -4,9 +4,9 @@ use mathlib.Core.Bool.{Bool, not, _&&_}
 use mathlib.Core.Option.{Option, none, some}
 use lib.Dec.{ltb, eqb}
 use lib.Bits.{bitOr}
-use Rattle.protocol.specs.Types.{Entry, Server, Message, Shown, Served, ServeRefused, Kept, Answered}
+use Rattle.protocol.specs.Types.{Entry, Server, Message, Shown, Replied, Served, ServeRefused, Kept, Answered}
 use Rattle.protocol.specs.Tools.{if, within, holds, bitOf, Result, refused, done, guard}
-use Rattle.protocol.specs.Entries.{larger}
+use Rattle.protocol.specs.Entries.{below, larger}
 
 -- "READ (1)", "WRITE (2)", "END (3)", "START (4)", "5 answer"
 abbrev pub READ : ℕ
@@ -37,9 +37,17 @@ pub record Reply : Type 0 where
 abbrev pub answering : Server → Server → Reply
 answering a b = record { server = b; answer = some (record { view = a .view; entry = a .entry }) }
 
--- "it first keeps the larger stamp of its own and the written entry (equal stamps: its own)"
-unfoldable pub keeping : Server → Entry → Server
-keeping a e = record { view = a .view; faulty = a .faulty; keys = a .keys; entry = larger (a .entry) e }
+-- The three parts of WRITE, in the sequence of document 000 (figure 10, write). Compare the held stamp: "if (m_ts < ts)".
+unfoldable pub comparing : Server → Entry → Bool
+comparing a e = below (a .entry) e
+
+-- Replace: "then (m_ts, m_D) := (ts, D)". So it "keeps the larger stamp of its own and the written entry (equal stamps: its own)".
+unfoldable pub replacing : Server → Entry → Bool → Server
+replacing a e later = record { view = a .view; faulty = a .faulty; keys = a .keys; entry = if later e (a .entry) }
+
+-- Acknowledge: "return WRITE-ACK". It "then answers likewise", with the entry that it holds now.
+abbrev pub acknowledging : Server → Reply
+acknowledging a = answering a a
 
 -- "then gives the key up"
 unfoldable pub withoutKey : Server → Server
@@ -58,8 +66,8 @@ abbrev pub read : Server → Message → Result Reply
 read a m = done (answering a a)
 
 -- "WRITE (2): it first keeps the larger stamp ..., then answers likewise."
-abbrev pub write : Server → Message → Result Reply
-write a m = done (answering (keeping a (m .entry)) (keeping a (m .entry)))
+abbrev pub write : Server → Entry → Reply
+write a e = acknowledging (replacing a e (comparing a e))
 
 -- "END (3) of its view: it answers likewise, then gives the key up."
 abbrev pub end : Server → Message → Result Reply
@@ -83,12 +91,16 @@ serve a m member =
     (guard (not (a .faulty)) 6
     (guard (holds (a .keys .0) (a .view .0)) 7
     (if (eqb (m .kind) READ) (read a m)
-    (if (eqb (m .kind) WRITE) (write a m) (end a m))))))
+    (if (eqb (m .kind) WRITE) (done (write a (m .entry))) (end a m))))))
 
 -- "It may answer any request of kind 1 to 3 with any view whose key it holds": 5, 6, 9
 unfoldable pub mayAnswer : Server → ℕ → Message → Bool → Result Server
 mayAnswer a t m source =
     guard (isRequest (m .kind) && source) 5 (guard (a .faulty) 6 (guard (holds (a .keys .0) t) 9 (done a)))
+
+-- the values of a server that answers
+abbrev pub asReply : Replied → Reply
+asReply r = record { server = r .server; answer = some (r .shown) }
 
 -- the number and values of each case of a server's answer
 abbrev pub served : Served → Result Reply

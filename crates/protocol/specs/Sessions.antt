@@ -8,7 +8,7 @@ use Rattle.protocol.specs.Types.{Entry, Idle, Reading, Writing}
 use Rattle.protocol.specs.Tools.{countTo, allTo, any, holds, bitOf, nth, replace, done, guard, all}
 use Rattle.protocol.specs.Sizes.{viewWith, quorum, size, sized, readSize, writeSize}
 use Rattle.protocol.specs.Entries.{entry, empty, below, larger, largest, chosen, same}
-use Rattle.protocol.specs.Servers.{WRITE, keeping, withoutKey, joining, gathering, serve, mayAnswer}
+use Rattle.protocol.specs.Servers.{WRITE, comparing, replacing, withoutKey, joining, gathering, serve, mayAnswer}
 use Rattle.protocol.specs.Clients.{WRITES, READS, number, begin, giveUp, nextCount, toWrite, givenBy, countLeft, close, call, advance}
 use Rattle.protocol.specs.Worlds.{World, view, server, client, message, newest, member, present, room, withServer, withClient, withView, withMessage, withAdministrator, send, listTo, freshWorld, fresh, bad, premise}
 use Rattle.protocol.specs.Chains.{follow, chain, heard, enough, shown, agreed}
@@ -53,7 +53,7 @@ begun bits f = freshWorld (viewWith bits f)
 
 -- the run; whoever unfolds it unfolds all that a step computes with
 unfoldable pub run-of : ℕ → ℕ → List (List ℕ) → Run
-unfolding freshWorld listTo runFrom run tracked stepOf stepBytes step perform guard rowOf fieldsFit begins begin givesUp giveUp deliver serve keeping withoutKey joining gathering take takes link open? closes close nextCount toWrite givenBy countLeft starts advance fault source? lie mayAnswer newView call enough heard shown agreed all same chain follow below larger largest quorum size sized readSize writeSize countTo any holds bitOf nth replace view server client message member present room withServer withClient withView withMessage withAdministrator send
+unfolding freshWorld listTo runFrom run tracked stepOf stepBytes step perform guard rowOf fieldsFit begins begin givesUp giveUp deliver serve comparing replacing withoutKey joining gathering take takes link open? closes close nextCount toWrite givenBy countLeft starts advance fault source? lie mayAnswer newView call enough heard shown agreed all same chain follow below larger largest quorum size sized readSize writeSize countTo any holds bitOf nth replace view server client message member present room withServer withClient withView withMessage withAdministrator send
 run-of bits f steps = runFrom (begun bits f) steps
 
 -- its operations

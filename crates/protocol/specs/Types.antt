@@ -19,6 +19,7 @@ pub use Rattle.protocol.specs.declared.Message.{Message}
 pub use Rattle.protocol.specs.declared.Step.{Step}
 pub use Rattle.protocol.specs.declared.Range.{Range}
 pub use Rattle.protocol.specs.declared.Shown.{Shown}
+pub use Rattle.protocol.specs.declared.Replied.{Replied}
 pub use Rattle.protocol.specs.declared.Served.{Served}
 pub use Rattle.protocol.specs.declared.Served.the-variants.{ServeRefused, Kept, Answered}
 pub use Rattle.protocol.specs.declared.Begun.{Begun}

@@ -103,6 +103,12 @@ pub struct Shown {
     pub entry: Entry,
 }
 
+// A server that answers: its record after it, and the answer.
+pub struct Replied {
+    pub server: Server,
+    pub shown: Shown,
+}
+
 // A server's rule: a refusal, its record after it, or that and an answer.
 pub enum Served {
     ServeRefused(u8),

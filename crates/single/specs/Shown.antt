@@ -10,7 +10,7 @@ use lib.Dec.{eqb}
 use Rattle.protocol.specs.declared.Server.{Server}
 use Rattle.protocol.specs.declared.Message.{Message}
 use Rattle.protocol.specs.Tools.{if, Result, refused, done, guard, numberOf}
-use Rattle.protocol.specs.Servers.{READ, WRITE, START, Reply, keeping, withoutKey, start, serve}
+use Rattle.protocol.specs.Servers.{READ, WRITE, START, Reply, replacing, withoutKey, start, serve}
 use Rattle.protocol.specs.Steps.{deliverStep}
 use Rattle.checked.specs.Rules.{serveRule, falseAnswerRule}
 use Rattle.single.specs.Rules.{stays, serverRule}
@@ -46,7 +46,7 @@ own-start a m member =
     own-guard _ _ _ (own-if (a .faulty) _ _ (own-guard _ _ _ (own-done _ (inl refl))) (own-done _ (inl refl)))
 
 own-serve : (a : Server) (m : Message) (member : Bool) → Own (serve a m member)
-unfolding serve keeping withoutKey
+unfolding serve replacing withoutKey
 own-serve a m member =
     own-guard _ _ _
     (own-if (eqb (m .kind) START) _ _ (own-start a m member)

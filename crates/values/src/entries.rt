@@ -4,6 +4,7 @@ use protocol::Stamp;
 use protocol::StampCount;
 use protocol::limits::CLIENTS;
 ghost use mathlib.Core.Path.{_≡_};
+ghost use Rattle.protocol.specs.Tools.{if};
 ghost use Rattle.protocol.specs.Entries.{entry, empty, below, larger, same, entryFits};
 
 // The entry of a count, a writer and a value.
@@ -37,19 +38,26 @@ pub fn below(a: Entry, b: Entry) -> bool
     x.writer < y.writer
 }
 
-// The larger stamp of two; a where the stamps are equal. Made of its fields, as a copy would carry the bytes between them too.
-pub fn larger(a: Entry, b: Entry) -> Entry
-    ensures { λ r. ⌜ r ≡ larger a b ⌝ }
+// One of two entries: a where the test passes, else b. Made of its fields, as a copy would carry the bytes between them too.
+pub fn either(test: bool, a: Entry, b: Entry) -> Entry
+    ensures { λ r. ⌜ r ≡ if test a b ⌝ }
 {
     let x = a.stamp;
     let y = b.stamp;
     let m = x.count;
     let n = y.count;
-    let later = below(a, b);
-    if later {
-        return entry_of(n, y.writer, b.value);
+    if test {
+        return entry_of(m, x.writer, a.value);
     }
-    entry_of(m, x.writer, a.value)
+    entry_of(n, y.writer, b.value)
+}
+
+// The larger stamp of two; a where the stamps are equal.
+pub fn larger(a: Entry, b: Entry) -> Entry
+    ensures { λ r. ⌜ r ≡ larger a b ⌝ }
+{
+    let later = below(a, b);
+    either(later, b, a)
 }
 
 // Whether two entries agree in every field.

@@ -11,18 +11,19 @@ use Rattle.protocol.specs.declared.Entry.{Entry}
 use Rattle.protocol.specs.declared.Server.{Server}
 use Rattle.protocol.specs.declared.Message.{Message}
 use Rattle.protocol.specs.declared.Shown.{Shown}
+use Rattle.protocol.specs.declared.Replied.{Replied}
 use Rattle.protocol.specs.declared.View.{View}
 use Rattle.protocol.specs.Tools.{if, within, holds, nth, Result, refused, done, guard, then, numberOf}
 use Rattle.protocol.specs.Sizes.{servers, views, messages}
 use Rattle.protocol.specs.Entries.{empty}
-use Rattle.protocol.specs.Servers.{WRITE, START, isRequest, serve, mayAnswer}
+use Rattle.protocol.specs.Servers.{WRITE, START, isRequest, asReply, serve, mayAnswer}
 use Rattle.protocol.specs.Worlds.{World, view, server, message, newest, member, present, withServer, send}
 use Rattle.protocol.specs.Steps.{After, answer, answers, deliver, fault, source?, lie}
 use Rattle.protocol.specs.Laws.Tests.{within-true}
 use Rattle.protocol.specs.Laws.Bits.{holds-none}
 use Rattle.codec.specs.Places.{usedAt, viewAt, serverAt, messageAt, putServer}
 use Rattle.codec.specs.Images.{decode}
-use Rattle.machines.specs.Servers.{shownBy, serveIn, serve-in, after, replying, refused-by, serve-done}
+use Rattle.machines.specs.Servers.{serveIn, serve-in, entering, replying, accepting, refused-by, serve-done}
 use Rattle.preservation.specs.Updates.{present-is}
 use Rattle.preservation.specs.Kept.{mailed}
 use Rattle.world.specs.declared.Stepped.the-variants.{StepRefused, StepDone}
@@ -139,17 +140,17 @@ module _ {l : List ℕ} (h : Legible l) where
     unfolding deliver guard
     deliver-no d = refuses _ k l _ refl (rw (e, rule, refused-by (serveIn x m t) k (sym f) d) refl)
 
-    module _ (d : k ≡ 0) (y : Server) (g : y ≡ after x m) where
-      rule-done : serve (server w s) (message w n) (member w (message w n .view .0) s) ≡ done (replying x m)
+    module _ (d : k ≡ 0) where
+      rule-done : serve (server w s) (message w n) (member w (message w n .view .0) s) ≡ done (accepting x m)
       rule-done = rule ∙ serve-done x m t (sym f ∙ d)
 
-      pub deliver-kept : (l′ : List ℕ) → m .kind ≡ START → l′ ≡ putServer l s y → Does (StepDone 0) l l′ (deliver w s n)
+      pub deliver-kept : (y : Server) → y ≡ entering x m → (l′ : List ℕ) → m .kind ≡ START → l′ ≡ putServer l s y → Does (StepDone 0) l l′ (deliver w s n)
       unfolding deliver guard
-      deliver-kept l′ i j = does 0 (withServer w s y) l l′ _ (rw (e, rule-done, eq-eqb _ _ i, g) refl) (j ∙ with-server (image-of h) s a b y .is)
+      deliver-kept y g l′ i j = does 0 (withServer w s y) l l′ _ (rw (e, rule-done, eq-eqb _ _ i, g) refl) (j ∙ with-server (image-of h) s a b y .is)
 
-      pub deliver-answers : (v : Shown) → (m .kind ≡ START → ⊥) → v ≡ shownBy y → deliver w s n ≡ answers (some v) w s n y
+      pub deliver-answers : (r : Replied) → (m .kind ≡ START → ⊥) → asReply r ≡ replying x m → deliver w s n ≡ answers (some (r .shown)) w s n (r .server)
       unfolding deliver guard
-      deliver-answers v i j = rw (e, rule-done, ne-eqb _ _ i, j, g) refl
+      deliver-answers r i g = rw (e, rule-done, ne-eqb _ _ i, ← g) refl
 
   -- ---- a false answer
 

@@ -19,10 +19,10 @@ use codec::places::load_server;
 use codec::places::load_used;
 use codec::places::load_view;
 use codec::places::store_server;
-use machines::servers::after;
+use machines::servers::entering;
 use machines::servers::may_answer;
 use machines::servers::refuses;
-use machines::servers::shown_by;
+use machines::servers::replying;
 use protocol::Entry;
 use protocol::MessageNumber;
 use protocol::Server;
@@ -82,12 +82,14 @@ pub fn deliver(image: &mut [u8], s: ServerNumber, n: MessageNumber) -> Stepped
     if refusal != 0 {
         return Stepped::StepRefused(refusal);
     }
-    let b = after(a, m);
     if m.kind == START {
+        let b = entering(a, m);
         store_server(image, s, b);
         return Stepped::StepDone(0);
     }
-    let shown = shown_by(b);
+    let replied = replying(a, m);
+    let b = replied.server;
+    let shown = replied.shown;
     reply(image, s, n, b, shown)
 }
 

@@ -13,8 +13,8 @@ use borrow.Author.Tests.{ltb-true, eqb-true, eqb-false, not-true}
 use Rattle.protocol.specs.Types.{Entry, Server, Message, Shown}
 use Rattle.protocol.specs.Tools.{if, within, holds, bitOf, done, guard, passed}
 use Rattle.protocol.specs.Sizes.{messages}
-use Rattle.protocol.specs.Entries.{empty}
-use Rattle.protocol.specs.Servers.{READ, WRITE, END, START, ANSWER, isRequest, Reply, answering, keeping, withoutKey, joining, gathering, read, write, end, start, serve, mayAnswer}
+use Rattle.protocol.specs.Entries.{empty, larger}
+use Rattle.protocol.specs.Servers.{READ, WRITE, END, START, ANSWER, isRequest, Reply, answering, comparing, replacing, withoutKey, joining, gathering, read, write, end, start, serve, mayAnswer}
 use Rattle.protocol.specs.Worlds.{World, view, server, client, message, newest, member, present, room, withServer, send}
 use Rattle.protocol.specs.Steps.{After, moved, answer, answers, deliver, fault, source?, lie}
 use Rattle.protocol.specs.Laws.Tests.{and-left, and-right, and-both, or-cases, by-test, clash, within-true, went}
@@ -142,7 +142,7 @@ module _ {w : World} (h : Sound w) {s : ℕ} (r : IsServer s) {b : Server} (g : 
 -- the ways in which a server serves the message m
 pub data Serving (a : Server) (m : Message) (member : Bool) (r : Reply) : Type 0 where
   reads : m .kind ≡ READ → holds (a .keys .0) (a .view .0) ≡ true → r ≡ answering a a → Serving a m member r
-  writes : m .kind ≡ WRITE → holds (a .keys .0) (a .view .0) ≡ true → r ≡ answering (keeping a (m .entry)) (keeping a (m .entry)) → Serving a m member r
+  writes : m .kind ≡ WRITE → holds (a .keys .0) (a .view .0) ≡ true → r ≡ write a (m .entry) → Serving a m member r
   ends : m .kind ≡ END → a .faulty ≡ false → holds (a .keys .0) (a .view .0) ≡ true → r ≡ answering a (withoutKey a) → Serving a m member r
   joins : m .kind ≡ START → member ≡ true → a .view .0 < m .view .0 → a .faulty ≡ false → r ≡ record { server = joining a m; answer = none } → Serving a m member r
   gathers : m .kind ≡ START → member ≡ true → a .faulty ≡ true → r ≡ record { server = gathering a m; answer = none } → Serving a m member r
@@ -166,7 +166,7 @@ unfolding serve
 serving a m member r e = let (p, e1) = passed _ _ _ _ e in first p (eqb (m .kind) START) refl e1
   where
     third : within READ START (m .kind) ≡ true → eqb (m .kind) START ≡ false → a .faulty ≡ false → holds (a .keys .0) (a .view .0) ≡ true → (b c : Bool) → eqb (m .kind) READ ≡ b → eqb (m .kind) WRITE ≡ c
-        → if b (read a m) (if c (write a m) (end a m)) ≡ done r → Serving a m member r
+        → if b (read a m) (if c (done (write a (m .entry))) (end a m)) ≡ done r → Serving a m member r
     third p q f h true c x y e = reads (eqb-true _ _ x) h (is-done e)
     third p q f h false true x y e = writes (eqb-true _ _ y) h (is-done e)
     third p q f h false false x y e =
@@ -178,7 +178,7 @@ serving a m member r e = let (p, e1) = passed _ _ _ _ e in first p (eqb (m .kind
         only k l u a b c = omega arith
 
     first : within READ START (m .kind) ≡ true → (b : Bool) → eqb (m .kind) START ≡ b
-        → if b (start a m member) (guard (not (a .faulty)) 6 (guard (holds (a .keys .0) (a .view .0)) 7 (if (eqb (m .kind) READ) (read a m) (if (eqb (m .kind) WRITE) (write a m) (end a m))))) ≡ done r
+        → if b (start a m member) (guard (not (a .faulty)) 6 (guard (holds (a .keys .0) (a .view .0)) 7 (if (eqb (m .kind) READ) (read a m) (if (eqb (m .kind) WRITE) (done (write a (m .entry))) (end a m))))) ≡ done r
         → Serving a m member r
     first p true x e = started a m member r (eqb-true _ _ x) e
     first p false x e =
@@ -219,9 +219,9 @@ grew-faulty a =
     record { view = le-refl _; entry = ≼-refl _; lost = λ t l h g. h; fair = λ t g. and-false (a .faulty) _ g; keys = λ t h. inl h; joined = stay refl; source = inl refl }
 
 module _ {w : World} {s n : ℕ} (a : Server) where
-  grew-keeping : Sent w WRITE n → Grew w s a (keeping a (sent w n .entry))
-  unfolding keeping
-  grew-keeping p =
+  grew-replacing : Sent w WRITE n → Grew w s a (replacing a (sent w n .entry) (comparing a (sent w n .entry)))
+  unfolding comparing replacing larger
+  grew-replacing p =
       record {
         view = le-refl _;
         entry = larger-left _ _;
@@ -305,7 +305,7 @@ silent {w} h r g a e kind =
 
 -- "Deliver": accepted
 pub deliver-lawful : {w : World} → Sound w → (s n : ℕ) → IsServer s → (a : After) → deliver w s n ≡ done a → (kind : ℕ) → Lawful w (a .world) (a .completed) 0 kind
-unfolding deliver sent content keeping withoutKey joining gathering
+unfolding deliver sent content comparing replacing larger withoutKey joining gathering
 deliver-lawful {w} h s n r a e kind =
     let (p, e1) = passed _ _ _ _ e in
     let g = went _ _ _ e1 in
@@ -320,7 +320,7 @@ deliver-lawful {w} h s n r a e kind =
         (record { home = refl; current = refl; write = λ z. apart READ WRITE refl (sym k ∙ z); ended = λ z. apart READ END refl (sym k ∙ z) })
         refl a (rw q at e) kind
     go p y (writes k i q) e =
-        answered h r (grew-keeping (server w s) (record { below = p .1; is = k })) n _ (asked p (rw k refl)) i
+        answered h r (grew-replacing (server w s) (record { below = p .1; is = k })) n _ (asked p (rw k refl)) i
         (record { home = refl; current = refl; write = λ z. larger-right _ _; ended = λ z. apart WRITE END refl (sym k ∙ z) })
         refl a (rw q at e) kind
     go p y (ends k f i q) e =

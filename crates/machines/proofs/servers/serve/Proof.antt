@@ -11,17 +11,17 @@ refuses-requires c κs = search needs
 returns : tie.Need-returns
 returns c = sym (refused-by _ _ (sym (c .before .refuses .ensures)) (c .if1 .taken))
 
-after-requires : tie.Need-after-requires
-after-requires c κs = search needs
+entering-requires : tie.Need-entering-requires
+entering-requires c κs = search needs
 
 returns-2 : tie.Need-returns-2
-returns-2 c = simp (serve-done _ _ _ (sym (c .before .before .before .before .refuses .ensures) ∙ c .before .before .before .if1 .left), c .before .before .after .ensures, eq-eqb _ _ (c .if2 .taken))
+returns-2 c = simp (serve-done _ _ _ (sym (c .before .before .before .before .refuses .ensures) ∙ c .before .before .before .if1 .left), c .entering .ensures, eq-eqb _ _ (c .before .if2 .taken))
 
-shown-by-requires : tie.Need-shown-by-requires
-shown-by-requires c κs = search needs
+replying-requires : tie.Need-replying-requires
+replying-requires c κs = search needs
 
 returns-3 : tie.Need-returns-3
-returns-3 c = simp (serve-done _ _ _ (sym (c .before .before .before .before .before .refuses .ensures) ∙ c .before .before .before .before .if1 .left), c .shown-by .ensures, c .before .before .before .after .ensures, ne-eqb _ _ (c .before .if2 .left))
+returns-3 c = simp (serve-done _ _ _ (sym (c .before .before .before .before .before .before .refuses .ensures) ∙ c .before .before .before .before .before .if1 .left), ne-eqb _ _ (c .before .before .before .if2 .left), ← c .before .before .replying .ensures)
 
 pub serve-spec : {M : Type 1} → statement M
-serve-spec = tie.close (tie.spec refuses-requires returns after-requires returns-2 shown-by-requires returns-3)
+serve-spec = tie.close (tie.spec refuses-requires returns entering-requires returns-2 replying-requires returns-3)

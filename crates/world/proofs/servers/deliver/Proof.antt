@@ -31,10 +31,19 @@ same-length-2 : tie.Need-same-length-2
 same-length-2 c = search needs
 
 returns-2 : tie.Need-returns-2
-returns-2 c = let e = c .before in let d = e .before .before .before .before .before .before .before .before .before .before .before .before in deliver-no (d .pre .0) (d .args .s .0) (d .args .n .0) (d .pre .1) (d .pre .2) (sym (e .before .before .before .before .before .before .before .before .before .present .ensures) ∙ not-false (e .before .before .before .before .before .before .before .before .before .present .result) (e .before .before .before .before .before .before .before .before .if1 .left)) (e .before .before .before .before .before .before .load-message .result) (e .before .before .before .before .load-server .result) (e .before .is-member .result) (e .refuses .result) (e .before .before .before .before .before .before .load-message .ensures) (e .before .before .before .before .load-server .ensures) (e .before .is-member .ensures) (e .refuses .ensures) (c .if2 .taken)
+returns-2 c =
+    let r = c .before in
+    let m = r .before in
+    let x = m .before .before .before in
+    let y = x .before .before in
+    let i = y .before .before in
+    let e = i .before in
+    let d = e .before .before .before in
+    deliver-no (d .pre .0) (d .args .s .0) (d .args .n .0) (d .pre .1) (d .pre .2) (sym (e .present .ensures) ∙ not-false (e .present .result) (i .if1 .left)) _ _ _ _
+    (y .load-message .ensures) (x .load-server .ensures) (m .is-member .ensures) (r .refuses .ensures) (c .if2 .taken)
 
-after-requires : tie.Need-after-requires
-after-requires c κs = search needs
+entering-requires : tie.Need-entering-requires
+entering-requires c κs = search needs
 
 store-server-requires : tie.Need-store-server-requires
 store-server-requires c κs = let d = c .before .before .before .before .before .before .before .before .before .before .before .before .before .before .before .before .before in (d .pre .0 .size, d .pre .1, d .pre .2)
@@ -43,19 +52,39 @@ same-length-3 : tie.Need-same-length-3
 same-length-3 c = search needs
 
 returns-3 : tie.Need-returns-3
-returns-3 c = let e = c .before .before .before .before .before .before .before .before in let d = e .before .before .before .before .before .before .before .before .before .before .before .before in deliver-kept (d .pre .0) (d .args .s .0) (d .args .n .0) (d .pre .1) (d .pre .2) (sym (e .before .before .before .before .before .before .before .before .before .present .ensures) ∙ not-false (e .before .before .before .before .before .before .before .before .before .present .result) (e .before .before .before .before .before .before .before .before .if1 .left)) (e .before .before .before .before .before .before .load-message .result) (e .before .before .before .before .load-server .result) (e .before .is-member .result) (e .refuses .result) (e .before .before .before .before .before .before .load-message .ensures) (e .before .before .before .before .load-server .ensures) (e .before .is-member .ensures) (e .refuses .ensures) (c .before .before .before .before .before .before .before .if2 .left) (c .before .before .before .before .before .before .after .result) (c .before .before .before .before .before .before .after .ensures) _ (c .before .before .before .before .if3 .taken) (c .before .before .store-server .ensures)
+returns-3 c =
+    let r = c .before .before .before .before .before .before .before .before in
+    let m = r .before in
+    let x = m .before .before .before in
+    let y = x .before .before in
+    let i = y .before .before in
+    let e = i .before in
+    let d = e .before .before .before in
+    deliver-kept (d .pre .0) (d .args .s .0) (d .args .n .0) (d .pre .1) (d .pre .2) (sym (e .present .ensures) ∙ not-false (e .present .result) (i .if1 .left)) _ _ _ _
+    (y .load-message .ensures) (x .load-server .ensures) (m .is-member .ensures) (r .refuses .ensures) (c .before .before .before .before .before .before .before .if2 .left) _ (c .before .before .before .before .entering .ensures) _ (c .before .before .before .before .before .if3 .taken) (c .before .before .store-server .ensures)
 
-shown-by-requires : tie.Need-shown-by-requires
-shown-by-requires c κs = search needs
+replying-requires : tie.Need-replying-requires
+replying-requires c κs = search needs
 
 reply-requires : tie.Need-reply-requires
-reply-requires c κs = let d = c .before .before .before .before .before .before .before .before .before .before .before .before .before .before .before .before .before .before in (d .pre .0, d .pre .1, d .pre .2)
+reply-requires c κs = let d = c .before .before .before .before .before .before .before .before .before .before .before .before .before .before .before .before .before .before .before in (d .pre .0, d .pre .1, d .pre .2)
 
 same-length-4 : tie.Need-same-length-4
 same-length-4 c = search needs
 
 returns-4 : tie.Need-returns-4
-returns-4 c = let e = c .before .before .before .before .before .before .before .before .before in let d = e .before .before .before .before .before .before .before .before .before .before .before .before in by (deliver-answers (d .pre .0) (d .args .s .0) (d .args .n .0) (d .pre .1) (d .pre .2) (sym (e .before .before .before .before .before .before .before .before .before .present .ensures) ∙ not-false (e .before .before .before .before .before .before .before .before .before .present .result) (e .before .before .before .before .before .before .before .before .if1 .left)) (e .before .before .before .before .before .before .load-message .result) (e .before .before .before .before .load-server .result) (e .before .is-member .result) (e .refuses .result) (e .before .before .before .before .before .before .load-message .ensures) (e .before .before .before .before .load-server .ensures) (e .before .is-member .ensures) (e .refuses .ensures) (c .before .before .before .before .before .before .before .before .if2 .left) (c .before .before .before .before .before .before .before .after .result) (c .before .before .before .before .before .before .before .after .ensures) _ (c .before .before .before .before .before .if3 .left) (c .before .before .before .before .shown-by .ensures)) (c .before .before .reply .ensures)
+returns-4 c =
+    let r = c .before .before .before .before .before .before .before .before .before .before in
+    let m = r .before in
+    let x = m .before .before .before in
+    let y = x .before .before in
+    let i = y .before .before in
+    let e = i .before in
+    let d = e .before .before .before in
+    by
+    (deliver-answers (d .pre .0) (d .args .s .0) (d .args .n .0) (d .pre .1) (d .pre .2) (sym (e .present .ensures) ∙ not-false (e .present .result) (i .if1 .left)) _ _ _ _
+    (y .load-message .ensures) (x .load-server .ensures) (m .is-member .ensures) (r .refuses .ensures) (c .before .before .before .before .before .before .before .before .before .if2 .left) _ (c .before .before .before .before .before .before .before .if3 .left) (c .before .before .before .before .before .before .replying .ensures))
+    (c .before .before .reply .ensures)
 
 pub deliver-spec : {M : Type 1} → statement M
-deliver-spec = tie.close (tie.spec present-requires same-length returns load-message-requires load-server-requires is-member-requires refuses-requires same-length-2 returns-2 after-requires store-server-requires same-length-3 returns-3 shown-by-requires reply-requires same-length-4 returns-4)
+deliver-spec = tie.close (tie.spec present-requires same-length returns load-message-requires load-server-requires is-member-requires refuses-requires same-length-2 returns-2 entering-requires store-server-requires same-length-3 returns-3 replying-requires reply-requires same-length-4 returns-4)
