@@ -18,7 +18,7 @@ static uint32_t number(const uint8_t *at)
 /* The last operation of a client, from its record in the image. */
 static void print_operation(unsigned client)
 {
-    const uint8_t *record = image + 912 + ZW_CLIENT * (client - 1);
+    const uint8_t *record = image + 944 + ZW_CLIENT * (client - 1);
     printf("%u %c %u %u %u\n", client, record[1] == 1 ? 'W' : 'R', number(record + 4),
            record[8], number(record + 12));
 }

@@ -1,5 +1,5 @@
 /* The archive's register: a world of servers, views, clients and messages in a
- * lent image of 21,712 bytes, moved by steps of 12 bytes. docs/LAYOUT.md has
+ * lent image of 21,744 bytes, moved by steps of 12 bytes. docs/LAYOUT.md has
  * every byte of both, and of all else that is lent here.
  *
  * Every answer is refusal + 256 * result, and 0 as refusal means done. Beside a
@@ -19,8 +19,9 @@
 extern "C" {
 #endif
 
-#define ZW_IMAGE 21712         /* bytes of an image */
+#define ZW_IMAGE 21744         /* bytes of an image */
 #define ZW_STEP 12             /* bytes of a step */
+#define ZW_FIRST 8             /* bytes of the step that a watched replay names */
 #define ZW_SERVER 20           /* bytes of a server's record */
 #define ZW_CLIENT 20           /* bytes of a client's record */
 #define ZW_ADMINISTRATOR 4     /* bytes of the administrator's record */
@@ -83,6 +84,13 @@ uint64_t zw_replay(uint8_t *image, size_t n, const uint8_t *journal, size_t m);
  * beside a refusal too, exact below 2^56. Refusals 1 to 12; 1 also if the journal
  * has fewer steps. */
 uint64_t zw_resume(uint8_t *image, size_t n, const uint8_t *journal, size_t m, uint64_t steps);
+
+/* A replay that watches the premise: the result and the refusals are those of
+ * zw_replay. `first`, 8 bytes, gets the number of the first step after which some
+ * view has more faulty servers with its key than its threshold, or 0, a u64,
+ * little-endian; beside a stop too. It is written unless the refusal is 1 or 2.
+ * 1 also if k is another length. */
+uint64_t zw_watch(uint8_t *image, size_t n, const uint8_t *journal, size_t m, uint8_t *first, size_t k);
 
 /* Writes the load of a seed and a number of steps: a journal of n bytes, n being
  * ZW_STEP * steps. The two inputs fix every byte, and each step passes check 3.

@@ -12,7 +12,10 @@ fn main() {
     let Ok(folder) = folder.canonicalize() else {
         panic!("no such folder: {}", folder.display());
     };
-    println!("cargo:rerun-if-changed={}", folder.join("libexports.a").display());
+    println!(
+        "cargo:rerun-if-changed={}",
+        folder.join("libexports.a").display()
+    );
     println!("cargo:rustc-link-search=native={}", folder.display());
     println!("cargo:rustc-link-lib=static=exports");
 }

@@ -3,7 +3,7 @@
 use std::hint::black_box;
 use std::time::{Duration, Instant};
 
-use crate::compare::library::{Library, Reference};
+use crate::compare::library::{pack, Library, Reference};
 use crate::generate::journals::journal;
 use crate::generate::logs::kept;
 use crate::generate::profile::{Profile, FULL, WIDE};
@@ -11,7 +11,7 @@ use crate::generate::stops::{stopped, STOPS};
 use crate::journal::Journal;
 use crate::judge::{bytes, LINES, LINE_SIZE, PLACE_SIZE};
 use crate::layout::{IMAGE_SIZE, LAST_MESSAGE, STEP_SIZE};
-use crate::operations::{fresh, replay};
+use crate::operations::{fresh, replay, watch_counted, FIRST_SIZE};
 use crate::rules::Sound;
 use crate::shorten::STEPS;
 use crate::xorshift::Draws;
@@ -107,6 +107,36 @@ pub fn rows(library: &dyn Library) -> Vec<Row> {
             "call",
             |side| premises_of_fresh(side, &full),
         ),
+        between(
+            "watched replay, against the library's own replay",
+            "step",
+            || replays(library, &full),
+            || {
+                watches(&full, |image, journal, first| {
+                    library.watch(image, journal, first)
+                })
+            },
+        ),
+        between(
+            "watched replay, against a full count after each step",
+            "step",
+            || watches(&full, counted),
+            || {
+                watches(&full, |image, journal, first| {
+                    library.watch(image, journal, first)
+                })
+            },
+        ),
+        between(
+            "the same, 32 servers",
+            "step",
+            || watches(&wide, counted),
+            || {
+                watches(&wide, |image, journal, first| {
+                    library.watch(image, journal, first)
+                })
+            },
+        ),
         row(library, "load of a seed", "step", loads),
         row(library, "log of 256 operations, in order", "call", |side| {
             judgements(side, &logs)
@@ -194,14 +224,24 @@ fn row(
     unit: &'static str,
     measure: impl Fn(&dyn Library) -> Spent,
 ) -> Row {
+    between(what, unit, || measure(&Reference), || measure(library))
+}
+
+/// The same of any two: the second stands in the library's place.
+fn between(
+    what: &'static str,
+    unit: &'static str,
+    one: impl Fn() -> Spent,
+    other: impl Fn() -> Spent,
+) -> Row {
     let mut ours = Vec::new();
     let mut theirs = Vec::new();
     // One round of each to warm up, which is not counted.
-    measure(&Reference);
-    measure(library);
+    one();
+    other();
     for _ in 0..ROUNDS {
-        ours.push(per_unit(measure(&Reference)));
-        theirs.push(per_unit(measure(library)));
+        ours.push(per_unit(one()));
+        theirs.push(per_unit(other()));
     }
     // The sides of one round met the same load of the machine.
     let ratios = ours.iter().zip(&theirs).map(|(our, their)| their / our);
@@ -232,6 +272,31 @@ fn replays(side: &dyn Library, journals: &[Full]) -> Spent {
         image.copy_from_slice(&full.fresh);
         let begin = Instant::now();
         let answer = side.replay(black_box(&mut image), black_box(&full.journal));
+        spent += begin.elapsed();
+        assert_eq!(answer, 256 * full.steps() as u64, "every step is accepted");
+        assert!(image == full.after, "the journal leads to the same image");
+        steps += full.steps();
+    }
+    (spent, steps)
+}
+
+/// A replay of the reference with a premise report after each step: a count of
+/// all servers against all views.
+fn counted(image: &mut [u8], journal: &[u8], first: &mut [u8]) -> u64 {
+    let replayed = watch_counted(image, journal, first).replayed;
+    pack(replayed.refusal(), replayed.done as u64)
+}
+
+/// Each journal with the premise watched.
+fn watches(journals: &[Full], watch: impl Fn(&mut [u8], &[u8], &mut [u8]) -> u64) -> Spent {
+    let mut spent = Duration::ZERO;
+    let mut steps = 0;
+    let mut image = vec![0; IMAGE_SIZE];
+    let mut first = [0; FIRST_SIZE];
+    for full in journals {
+        image.copy_from_slice(&full.fresh);
+        let begin = Instant::now();
+        let answer = watch(black_box(&mut image), black_box(&full.journal), &mut first);
         spent += begin.elapsed();
         assert_eq!(answer, 256 * full.steps() as u64, "every step is accepted");
         assert!(image == full.after, "the journal leads to the same image");

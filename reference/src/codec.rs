@@ -2,8 +2,8 @@
 
 use crate::entry::Entry;
 use crate::layout::{
-    CLIENTS_AT, CLIENT_SIZE, ENTRY_SIZE, HEADER_SIZE, IMAGE_SIZE, MESSAGES_AT, MESSAGE_SIZE,
-    SERVERS_AT, SERVER_SIZE, VIEWS_AT, VIEW_SIZE,
+    CLIENTS_AT, CLIENT_SIZE, ENTRY_SIZE, HEADER_SIZE, HOLDERS_AT, IMAGE_SIZE, MESSAGES_AT,
+    MESSAGE_SIZE, SERVERS_AT, SERVER_SIZE, VIEWS_AT, VIEW_SIZE,
 };
 use crate::world::{Client, Fresh, Header, Message, Server, View, World};
 
@@ -170,7 +170,10 @@ fn store_all<const N: usize, R: Record<N>>(records: &[R], bytes: &mut [u8]) {
 pub fn decode(image: &Image) -> World {
     let mut world = World::ZERO;
     load_all(&image[..VIEWS_AT], std::slice::from_mut(&mut world.header));
-    load_all(&image[VIEWS_AT..SERVERS_AT], &mut world.views);
+    load_all(&image[VIEWS_AT..HOLDERS_AT], &mut world.views);
+    world
+        .holders
+        .copy_from_slice(&image[HOLDERS_AT..SERVERS_AT]);
     load_all(&image[SERVERS_AT..CLIENTS_AT], &mut world.servers);
     load_all(&image[CLIENTS_AT..MESSAGES_AT], &mut world.clients);
     load_all(&image[MESSAGES_AT..], &mut world.messages);
@@ -180,7 +183,8 @@ pub fn decode(image: &Image) -> World {
 /// The image of the world: every byte of it is written.
 pub fn encode(world: &World, image: &mut Image) {
     store_all(std::slice::from_ref(&world.header), &mut image[..VIEWS_AT]);
-    store_all(&world.views, &mut image[VIEWS_AT..SERVERS_AT]);
+    store_all(&world.views, &mut image[VIEWS_AT..HOLDERS_AT]);
+    image[HOLDERS_AT..SERVERS_AT].copy_from_slice(&world.holders);
     store_all(&world.servers, &mut image[SERVERS_AT..CLIENTS_AT]);
     store_all(&world.clients, &mut image[CLIENTS_AT..MESSAGES_AT]);
     store_all(&world.messages, &mut image[MESSAGES_AT..]);
@@ -190,7 +194,7 @@ pub fn encode(world: &World, image: &mut Image) {
 pub fn encode_fresh(fresh: &Fresh, image: &mut Image) {
     image.fill(0);
     store_all(std::slice::from_ref(&fresh.header), &mut image[..VIEWS_AT]);
-    store_all(&fresh.views, &mut image[VIEWS_AT..SERVERS_AT]);
+    store_all(&fresh.views, &mut image[VIEWS_AT..HOLDERS_AT]);
     store_all(&fresh.servers, &mut image[SERVERS_AT..CLIENTS_AT]);
 }
 

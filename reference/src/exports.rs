@@ -24,6 +24,14 @@ extern "C" {
         shorter: *mut u8,
         k: usize,
     ) -> u64;
+    fn zw_watch(
+        image: *mut u8,
+        n: usize,
+        journal: *const u8,
+        m: usize,
+        first: *mut u8,
+        k: usize,
+    ) -> u64;
     fn zw_vouch(answers: *const u8, m: usize, n: u32, b: u32, entry: *mut u8, k: usize) -> u64;
     fn zw_vouch_threshold(
         answers: *const u8,
@@ -109,6 +117,20 @@ impl Library for Exports {
                 journal.len(),
                 shorter.as_mut_ptr(),
                 shorter.len(),
+            )
+        }
+    }
+
+    fn watch(&self, image: &mut [u8], journal: &[u8], first: &mut [u8]) -> u64 {
+        // SAFETY: all are pointer and length of slices, and they do not overlap.
+        unsafe {
+            zw_watch(
+                image.as_mut_ptr(),
+                image.len(),
+                journal.as_ptr(),
+                journal.len(),
+                first.as_mut_ptr(),
+                first.len(),
             )
         }
     }

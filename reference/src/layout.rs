@@ -1,7 +1,7 @@
 //! Sizes, counts and places in the image, each named here and nowhere else.
 
 /// The version that the header carries.
-pub const VERSION: u16 = 2;
+pub const VERSION: u16 = 3;
 
 /// Views are 1 to 32.
 pub const VIEWS: usize = 32;
@@ -41,11 +41,13 @@ pub const ADMINISTRATOR_CALL_SIZE: usize = ASKED_SIZE + VIEW_SIZE;
 
 /// Where each part of the image begins.
 pub const VIEWS_AT: usize = HEADER_SIZE;
-pub const SERVERS_AT: usize = VIEWS_AT + VIEWS * VIEW_SIZE;
+/// One byte a view: the number of its faulty key holders.
+pub const HOLDERS_AT: usize = VIEWS_AT + VIEWS * VIEW_SIZE;
+pub const SERVERS_AT: usize = HOLDERS_AT + VIEWS;
 pub const CLIENTS_AT: usize = SERVERS_AT + SERVERS * SERVER_SIZE;
 pub const MESSAGES_AT: usize = CLIENTS_AT + CLIENTS * CLIENT_SIZE;
 
 /// Bytes of a whole image.
 pub const IMAGE_SIZE: usize = MESSAGES_AT + MESSAGES * MESSAGE_SIZE;
 
-const _: () = assert!(IMAGE_SIZE == 21_712);
+const _: () = assert!(IMAGE_SIZE == 21_744);

@@ -3,13 +3,16 @@
 
 use crate::codec::{decode, encode, encode_fresh, Image};
 use crate::layout::STEP_SIZE;
-use crate::premise::premise as premise_holds;
+use crate::premise::{premise as premise_holds, premise_kept};
 use crate::readable::readable;
 use crate::record::Step;
 use crate::refusal::Reason;
 use crate::rules::Sound;
 use crate::step::{step as step_world, Done};
 use crate::world::{Fresh, World};
+
+/// Bytes of the number that the second form of replay writes.
+pub const FIRST_SIZE: usize = 8;
 
 /// What a replay answers: the steps done, and why it stopped, if it did.
 #[derive(Clone, Copy, Debug, PartialEq, Eq)]
@@ -88,6 +91,65 @@ pub fn replay(image: &mut [u8], journal: &[u8]) -> Replayed {
     replayed
 }
 
+/// What the second form of replay answers: the replay's answer, and the first
+/// accepted step after which the premise does not hold, or 0.
+#[derive(Clone, Copy, Debug, PartialEq, Eq)]
+pub struct Watched {
+    pub replayed: Replayed,
+    pub first: u64,
+}
+
+/// A replay that also names the first step after which the premise does not
+/// hold. That number is written unless the replay does not begin.
+pub fn watch(image: &mut [u8], journal: &[u8], first: &mut [u8]) -> Watched {
+    watch_by(image, journal, first, premise_kept)
+}
+
+/// The same by a full count after each step.
+pub fn watch_counted(image: &mut [u8], journal: &[u8], first: &mut [u8]) -> Watched {
+    watch_by(image, journal, first, premise_holds::<Sound>)
+}
+
+fn watch_by(
+    image: &mut [u8],
+    journal: &[u8],
+    first: &mut [u8],
+    holds: fn(&World) -> bool,
+) -> Watched {
+    let not_begun = |reason| Watched {
+        replayed: Replayed::not_begun(reason),
+        first: 0,
+    };
+    let Ok(first): Result<&mut [u8; FIRST_SIZE], _> = first.try_into() else {
+        return not_begun(Reason::FirstLength);
+    };
+    let image = match whole(image) {
+        Ok(image) => image,
+        Err(reason) => return not_begun(reason),
+    };
+    if !journal.len().is_multiple_of(STEP_SIZE) {
+        return not_begun(Reason::JournalLength);
+    }
+    let mut world = match load(image) {
+        Ok(world) => world,
+        Err(reason) => return not_begun(reason),
+    };
+    let watched = watch_world(&mut world, journal, holds);
+    encode(&world, image);
+    *first = watched.first.to_le_bytes();
+    watched
+}
+
+fn watch_world(world: &mut World, journal: &[u8], holds: fn(&World) -> bool) -> Watched {
+    let mut first = 0;
+    let replayed = replay_each(world, journal, |world, done| {
+        if first == 0 && !holds(world) {
+            first = done as u64;
+        }
+    });
+    Watched { replayed, first }
+}
+
 /// The part of the journal that begins after so many steps. A journal with
 /// fewer is of a wrong length.
 pub fn resume(image: &mut [u8], journal: &[u8], steps: u64) -> Replayed {
@@ -100,6 +162,11 @@ pub fn resume(image: &mut [u8], journal: &[u8], steps: u64) -> Replayed {
 
 /// The journal on a decoded world.
 pub fn replay_world(world: &mut World, journal: &[u8]) -> Replayed {
+    replay_each(world, journal, |_, _| {})
+}
+
+/// The same; after each accepted step the world is shown, with the steps done.
+fn replay_each(world: &mut World, journal: &[u8], mut show: impl FnMut(&World, usize)) -> Replayed {
     let mut done = 0;
     for bytes in journal.chunks_exact(STEP_SIZE) {
         let bytes: &[u8; STEP_SIZE] = bytes.try_into().expect("a chunk has a step's length");
@@ -110,6 +177,7 @@ pub fn replay_world(world: &mut World, journal: &[u8]) -> Replayed {
             };
         }
         done += 1;
+        show(world, done);
     }
     Replayed {
         done,

@@ -9,12 +9,18 @@ pub fn premise<R: Rules>(world: &World) -> bool {
     let holders = faulty_holders(world);
     (1..=world.header.newest).all(|view| {
         let counted = !(R::FORGETS_LEFT_VIEWS && left_by_quorum(world, view));
-        !counted || holders[usize::from(view) - 1] <= u32::from(world.view(view).f)
+        !counted || holders[usize::from(view) - 1] <= world.view(view).f
     })
 }
 
+/// The same from the bytes that are kept beside the views, without a walk.
+pub fn premise_kept(world: &World) -> bool {
+    let kept = world.holders.iter().zip(&world.views);
+    kept.into_iter().all(|(holders, view)| *holders <= view.f)
+}
+
 /// For each view, how many faulty servers hold its key, members or not.
-fn faulty_holders(world: &World) -> [u32; VIEWS] {
+pub fn faulty_holders(world: &World) -> [u8; VIEWS] {
     let mut holders = [0; VIEWS];
     for server in world.servers.iter().filter(|server| server.is_faulty()) {
         let mut keys = server.keys;

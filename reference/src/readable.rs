@@ -8,7 +8,8 @@
 use std::ops::ControlFlow;
 
 use crate::entry::Entry;
-use crate::layout::{LAST_CLIENT, LAST_MESSAGE, LAST_SERVER, LAST_VIEW, MESSAGES, VERSION};
+use crate::layout::{LAST_CLIENT, LAST_MESSAGE, LAST_SERVER, LAST_VIEW, MESSAGES, VERSION, VIEWS};
+use crate::premise::faulty_holders;
 use crate::world::{
     bit, message_kind, operation_kind, phase, Client, Message, Server, View, World,
 };
@@ -26,7 +27,7 @@ macro_rules! clauses {
 }
 
 clauses! {
-    /// The version is 2.
+    /// The version is 3.
     Version,
     /// At most 1,023 messages are used.
     Used,
@@ -50,6 +51,9 @@ clauses! {
     ViewSize,
     /// Views beyond are zero.
     ViewBeyond,
+    /// Each view's byte is the number of its faulty key holders; beyond the
+    /// newest view it is 0.
+    Holders,
     /// A server's view does not exceed the newest.
     ServerView,
     /// Faulty is 0 or 1.
@@ -180,6 +184,7 @@ fn judge(world: &World, judge: &mut impl Judge) -> Flow {
     for (number, record) in (1..).zip(&world.views) {
         view(world, number, record, judge)?;
     }
+    judge.clause(Clause::Holders, world.holders == counted(world))?;
     for record in &world.servers {
         server(world, record, judge)?;
     }
@@ -239,6 +244,17 @@ fn view(world: &World, number: u8, view: &View, judge: &mut impl Judge) -> Flow 
         Clause::ViewBeyond,
         recorded || (view.members == 0 && view.f == 0),
     )
+}
+
+/// The faulty key holders of views 1 to newest, as the servers have it.
+fn counted(world: &World) -> [u8; VIEWS] {
+    let mut counts = faulty_holders(world);
+    for (number, count) in (1..).zip(&mut counts) {
+        if number > world.header.newest {
+            *count = 0;
+        }
+    }
+    counts
 }
 
 /// The bits of the keys of views 1 to newest.

@@ -8,7 +8,7 @@ use crate::step::Close;
 
 #[derive(Clone, Copy, Debug, PartialEq, Eq, Hash, PartialOrd, Ord)]
 pub enum Reason {
-    /// 1: the image is not 21,712 bytes long.
+    /// 1: the image is not 21,744 bytes long.
     ImageLength,
     /// 1: a step is not 12 bytes long.
     StepLength,
@@ -24,6 +24,8 @@ pub enum Reason {
     TooManySteps,
     /// 1: the short journal's buffer is not as long as the journal.
     ShorterLength,
+    /// 1: the number of a step has not eight bytes.
+    FirstLength,
     /// 1: a list is not made of whole answers.
     AnswersLength,
     /// 1: the buffer for an entry is not as long as one.
@@ -149,7 +151,7 @@ impl Reason {
         use Reason::*;
         match self {
             ImageLength | StepLength | JournalLength | RecordLength | LogLength | OrderLength
-            | TooManySteps | ShorterLength | AnswersLength | EntryLength => 1,
+            | TooManySteps | ShorterLength | FirstLength | AnswersLength | EntryLength => 1,
             Unreadable => 2,
             UnknownKind | OutOfRange(_) | Unused(_) | RecordRange | CallRange => 3,
             ClientBusy | EndingAlready => 4,

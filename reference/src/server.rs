@@ -62,11 +62,11 @@ fn start<R: Rules>(world: &mut World, server: u8, message: &Message) -> Outcome 
     let member = world.view(message.view).has_member(server);
     let record = world.server_mut(server);
     *record = started::<R>(record, message, member)?;
-    Ok(Done::just(if record.is_faulty() {
-        Deed::KeyAdded
-    } else {
-        Deed::Started
-    }))
+    if !record.is_faulty() {
+        return Ok(Done::just(Deed::Started));
+    }
+    world.add_holder(bit(message.view));
+    Ok(Done::just(Deed::KeyAdded))
 }
 
 /// The record of a server after START of view t, which asks for no key. A
@@ -109,6 +109,8 @@ pub fn fault(world: &mut World, server: u8) -> Outcome {
         return Err(Reason::FaultyAlready);
     }
     record.faulty = 1;
+    let keys = record.keys;
+    world.add_holder(keys);
     Ok(Done::just(Deed::Faulted))
 }
 

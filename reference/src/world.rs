@@ -93,6 +93,8 @@ impl Message {
 pub struct World {
     pub header: Header,
     pub views: [View; VIEWS],
+    /// For each view the number of faulty servers that hold its key.
+    pub holders: [u8; VIEWS],
     pub servers: [Server; SERVERS],
     pub clients: [Client; CLIENTS],
     pub messages: [Message; MESSAGES],
@@ -192,6 +194,7 @@ impl World {
             f: 0,
             spare: [0; 3],
         }; VIEWS],
+        holders: [0; VIEWS],
         servers: [Server {
             view: 0,
             faulty: 0,
@@ -246,6 +249,16 @@ impl World {
 
     pub fn client_mut(&mut self, number: u8) -> &mut Client {
         &mut self.clients[usize::from(number) - 1]
+    }
+
+    /// One more faulty server holds each of these keys.
+    pub fn add_holder(&mut self, keys: u32) {
+        for view in (1..)
+            .zip(&mut self.holders)
+            .filter(|(view, _)| keys & bit(*view) != 0)
+        {
+            *view.1 += 1;
+        }
     }
 
     /// The message of that number, if the number is used.

@@ -1,12 +1,12 @@
 //! Safe functions over the proved archive register: a world of servers, views,
-//! clients and messages in an image of 21,712 bytes, moved by steps of 12 bytes.
+//! clients and messages in an image of 21,744 bytes, moved by steps of 12 bytes.
 //! `docs/LAYOUT.md` has every byte of both, and of all else. The library tests all that it is
 //! given, so no call here has a condition.
 
 mod raw;
 
 /// Bytes of an image, a step, and the records and calls of single machines.
-pub const IMAGE: usize = 21_712;
+pub const IMAGE: usize = 21_744;
 pub const STEP: usize = 12;
 pub const SERVER: usize = 20;
 pub const CLIENT: usize = 20;
@@ -14,6 +14,9 @@ pub const ADMINISTRATOR: usize = 4;
 pub const SERVER_CALL: usize = 24;
 pub const CLIENT_CALL: usize = 17;
 pub const ADMINISTRATOR_CALL: usize = 12;
+
+/// Bytes of the number that a watched replay writes.
+const FIRST: usize = 8;
 
 /// Bytes of a line of a log, of its number in an order, of an entry, and of an
 /// answer without a signature.
@@ -92,6 +95,14 @@ pub fn replay(image: &mut [u8], journal: &[u8]) -> Replayed {
 /// has fewer. `Replayed::steps` counts the steps done now.
 pub fn resume(image: &mut [u8], journal: &[u8], steps: u64) -> Replayed {
     replayed(raw::resume(image, journal, steps))
+}
+
+/// A replay, and the first step after which some view has more faulty servers
+/// with its key than its threshold, or 0; beside a stop too.
+pub fn watch(image: &mut [u8], journal: &[u8]) -> (Replayed, u64) {
+    let mut first = [0; FIRST];
+    let answer = raw::watch(image, journal, &mut first);
+    (replayed(answer), u64::from_le_bytes(first))
 }
 
 /// Writes the load of a seed and a number of steps, 12 bytes a step. Refused with

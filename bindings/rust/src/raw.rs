@@ -10,12 +10,15 @@ mod c {
         pub fn zw_step(image: *mut u8, n: usize, step: *const u8, m: usize) -> u64;
         pub fn zw_premise(image: *const u8, n: usize) -> u64;
         pub fn zw_replay(image: *mut u8, n: usize, journal: *const u8, m: usize) -> u64;
-        pub fn zw_resume(
+        pub fn zw_resume(image: *mut u8, n: usize, journal: *const u8, m: usize, steps: u64)
+            -> u64;
+        pub fn zw_watch(
             image: *mut u8,
             n: usize,
             journal: *const u8,
             m: usize,
-            steps: u64,
+            first: *mut u8,
+            k: usize,
         ) -> u64;
         pub fn zw_load(journal: *mut u8, n: usize, seed: u32, steps: u32) -> u64;
         pub fn zw_judge(log: *const u8, n: usize, order: *mut u8, m: usize) -> u64;
@@ -86,6 +89,20 @@ pub fn resume(image: &mut [u8], journal: &[u8], steps: u64) -> u64 {
     let (lent, read) = (image.as_mut_ptr(), journal.as_ptr());
     // SAFETY: both are pointer and length of slices, which do not overlap.
     unsafe { c::zw_resume(lent, image.len(), read, journal.len(), steps) }
+}
+
+pub fn watch(image: &mut [u8], journal: &[u8], first: &mut [u8]) -> u64 {
+    // SAFETY: all are pointer and length of slices, which do not overlap.
+    unsafe {
+        c::zw_watch(
+            image.as_mut_ptr(),
+            image.len(),
+            journal.as_ptr(),
+            journal.len(),
+            first.as_mut_ptr(),
+            first.len(),
+        )
+    }
 }
 
 pub fn load(journal: &mut [u8], seed: u32, steps: u32) -> u64 {

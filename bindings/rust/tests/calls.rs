@@ -1,9 +1,9 @@
-//! The load, the judge, the short journal and the choice among entries without a
+//! The watched replay, the load, the judge, the short journal and the choice among entries without a
 //! signature through the safe functions.
 
 use zemawulo::{
-    fresh, judge, load, replay, shorten, vouch, vouch_threshold, Refusal, ANSWER, ENTRY, IMAGE,
-    LOG_LINE, LOG_LINES, ORDER_LINE, SHORTEN_STEPS, STEP,
+    fresh, judge, load, replay, shorten, vouch, vouch_threshold, watch, Refusal, ANSWER, ENTRY,
+    IMAGE, LOG_LINE, LOG_LINES, ORDER_LINE, SHORTEN_STEPS, STEP,
 };
 
 fn entry(count: u32, writer: u8, value: u32) -> [u8; ENTRY] {
@@ -12,6 +12,23 @@ fn entry(count: u32, writer: u8, value: u32) -> [u8; ENTRY] {
     bytes[4] = writer;
     bytes[8..].copy_from_slice(&value.to_le_bytes());
     bytes
+}
+
+#[test]
+fn a_watched_replay() {
+    let mut image = [0; IMAGE];
+    fresh(&mut image, 0b1111, 1).unwrap();
+    let fault = |server| [5, server, 0, 0, 0, 0, 0, 0, 0, 0, 0, 0];
+    let journal = [fault(1), fault(2), fault(3), fault(3)].concat();
+    let (replayed, first) = watch(&mut image, &journal);
+    assert_eq!((replayed.steps, replayed.stop), (3, Some(Refusal(6))));
+    assert_eq!(first, 2);
+    // The byte of view 1 counts its faulty key holders; another is unreadable.
+    assert_eq!(image[272], 3);
+    image[272] = 4;
+    let (replayed, first) = watch(&mut image, &journal);
+    assert_eq!((replayed.steps, replayed.stop), (0, Some(Refusal(2))));
+    assert_eq!(first, 0);
 }
 
 #[test]

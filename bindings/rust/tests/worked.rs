@@ -44,7 +44,7 @@ fn worked_session_step_by_step() {
     let mut completed = Vec::new();
     for bytes in worked() {
         if let Some(number) = step(&mut image, &bytes).unwrap() {
-            let at = 912 + CLIENT * (usize::from(number) - 1);
+            let at = 944 + CLIENT * (usize::from(number) - 1);
             completed.push((number, image[at + 1], image[at + 4..at + 16].to_vec()));
         }
     }
@@ -174,9 +174,18 @@ fn one_server() {
     let before = record.clone();
     assert_eq!(server(&mut record, &end), Err(Refusal(7)));
     let start = [4, 0, 2, 0, 0, 0, 0, 0];
-    assert_eq!(server(&mut record, &asked(3, 0, 0, start, none)), Err(Refusal(7)));
-    assert_eq!(server(&mut record, &asked(3, 2, 0, start, none)), Err(Refusal(3)));
-    assert_eq!(server(&mut record, &asked(3, 1, 1, start, none)), Err(Refusal(3)));
+    assert_eq!(
+        server(&mut record, &asked(3, 0, 0, start, none)),
+        Err(Refusal(7))
+    );
+    assert_eq!(
+        server(&mut record, &asked(3, 2, 0, start, none)),
+        Err(Refusal(3))
+    );
+    assert_eq!(
+        server(&mut record, &asked(3, 1, 1, start, none)),
+        Err(Refusal(3))
+    );
     assert_eq!(server(&mut record[1..], &end), Err(Refusal(1)));
     assert_eq!(server(&mut record, &end[1..]), Err(Refusal(1)));
     assert_eq!(record, before);
@@ -191,12 +200,27 @@ fn one_faulty_server() {
     let mut record = [&[1, 1, 0, 0, 1, 0, 0, 0][..], &none].concat();
     let before = record.clone();
     let read = [1, 1, 0, 0, 0, 0, 0, 0];
-    assert_eq!(server(&mut record, &asked(3, 0, 0, read, none)), Err(Refusal(6)));
+    assert_eq!(
+        server(&mut record, &asked(3, 0, 0, read, none)),
+        Err(Refusal(6))
+    );
     assert_eq!(server(&mut record, &asked(6, 1, 1, read, none)), Ok(false));
-    assert_eq!(server(&mut record, &asked(6, 0, 1, read, none)), Err(Refusal(5)));
-    assert_eq!(server(&mut record, &asked(6, 1, 2, read, none)), Err(Refusal(9)));
-    assert_eq!(server(&mut record, &asked(6, 1, 0, read, none)), Err(Refusal(3)));
-    assert_eq!(server(&mut record, &asked(5, 1, 1, read, none)), Err(Refusal(3)));
+    assert_eq!(
+        server(&mut record, &asked(6, 0, 1, read, none)),
+        Err(Refusal(5))
+    );
+    assert_eq!(
+        server(&mut record, &asked(6, 1, 2, read, none)),
+        Err(Refusal(9))
+    );
+    assert_eq!(
+        server(&mut record, &asked(6, 1, 0, read, none)),
+        Err(Refusal(3))
+    );
+    assert_eq!(
+        server(&mut record, &asked(5, 1, 1, read, none)),
+        Err(Refusal(3))
+    );
     assert_eq!(record, before);
 }
 

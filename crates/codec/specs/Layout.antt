@@ -5,9 +5,9 @@ use Prim.Native.Nat.{ℕ, suc, _+_, _*_, _-_}
 use Rattle.protocol.specs.Sizes.{clients, servers, views, messages}
 use Rattle.protocol.specs.Runs.{u8Width, u16Width, u32Width}
 
--- "the version becomes 2"
+-- "version 3"
 abbrev pub version : ℕ
-version = 2
+version = 3
 
 -- "Entry, 12: count u32, writer u8, 3 zero bytes, value u32." No zero bytes end it.
 abbrev pub countPlace : ℕ
@@ -49,6 +49,10 @@ viewSpare = 3
 
 abbrev pub viewWidth : ℕ
 viewWidth = viewSparePlace + viewSpare
+
+-- "for each view a byte with the number of its faulty key holders"
+abbrev pub holderWidth : ℕ
+holderWidth = u8Width
 
 -- "Server: view u8 (0 none yet), faulty u8, 2 zero, key bits u32 (bit t-1), entry."
 abbrev pub serverViewPlace : ℕ
@@ -149,12 +153,16 @@ headerSpare = 8
 abbrev pub headerWidth : ℕ
 headerWidth = headerSparePlace + headerSpare
 
--- "header 16; views 1 to 32 ...; servers 1 to 32 ...; clients 1 to 16 ...; messages 0 to 1,023": where each group begins
+-- "header 16; views 1 to 32 ...; servers 1 to 32 ...; clients 1 to 16 ...; messages 0 to 1,023", and "32 bytes after the views": where
+-- each group begins
 abbrev pub viewsAt : ℕ
 viewsAt = headerWidth
 
+abbrev pub holdersAt : ℕ
+holdersAt = viewsAt + views * viewWidth
+
 abbrev pub serversAt : ℕ
-serversAt = viewsAt + views * viewWidth
+serversAt = holdersAt + views * holderWidth
 
 abbrev pub clientsAt : ℕ
 clientsAt = serversAt + servers * serverWidth
@@ -162,13 +170,16 @@ clientsAt = serversAt + servers * serverWidth
 abbrev pub messagesAt : ℕ
 messagesAt = clientsAt + clients * clientWidth
 
--- the image, 21,712 bytes
+-- the image, 21,744 bytes
 abbrev pub imageSize : ℕ
 imageSize = messagesAt + suc messages * messageWidth
 
 -- where the record of a number begins
 abbrev pub viewPlace : ℕ → ℕ
 viewPlace t = viewsAt + viewWidth * (t - 1)
+
+abbrev pub holderPlace : ℕ → ℕ
+holderPlace t = holdersAt + holderWidth * (t - 1)
 
 abbrev pub serverPlace : ℕ → ℕ
 serverPlace s = serversAt + serverWidth * (s - 1)

@@ -1,16 +1,17 @@
 -- The records of an image by their numbers. Assumes nothing.
 use mathlib.Core.List.{List}
 use Prim.Native.Nat.{ℕ}
+use lib.ListN.{getD}
 use Rattle.protocol.specs.declared.View.{View}
 use Rattle.protocol.specs.declared.Server.{Server}
 use Rattle.protocol.specs.declared.Client.{Client}
 use Rattle.protocol.specs.declared.Administrator.{Administrator}
 use Rattle.protocol.specs.declared.Message.{Message}
 use Rattle.protocol.specs.Runs.{u16At}
-use Rattle.codec.specs.Layout.{viewWidth, serverWidth, clientWidth, messageWidth, usedPlace, administratorPlace, administratorWidth, viewPlace, serverPlace, clientPlace, messagePlace}
+use Rattle.codec.specs.Layout.{viewWidth, serverWidth, clientWidth, messageWidth, usedPlace, administratorPlace, administratorWidth, viewPlace, holderPlace, serverPlace, clientPlace, messagePlace}
 use Rattle.codec.specs.Lists.{part, put}
 use Rattle.codec.specs.Bytes.{le16}
-use Rattle.codec.specs.Records.{viewOf, viewBytes, serverOf, serverBytes, clientOf, clientBytes, messageOf, messageBytes, administratorOf, administratorBytes}
+use Rattle.codec.specs.Records.{viewOf, viewBytes, holderBytes, serverOf, serverBytes, clientOf, clientBytes, messageOf, messageBytes, administratorOf, administratorBytes}
 
 unfoldable pub usedAt : List ℕ → ℕ
 usedAt l = u16At l usedPlace
@@ -29,6 +30,13 @@ viewAt l t = viewOf (part l (viewPlace t) viewWidth)
 
 unfoldable pub putView : List ℕ → ℕ → View → List ℕ
 putView l t v = put l (viewPlace t) (viewBytes v)
+
+-- the number of the faulty key holders of view t
+unfoldable pub holderAt : List ℕ → ℕ → ℕ
+holderAt l t = getD l (holderPlace t) 0
+
+unfoldable pub putHolder : List ℕ → ℕ → ℕ → List ℕ
+putHolder l t n = put l (holderPlace t) (holderBytes n)
 
 unfoldable pub serverAt : List ℕ → ℕ → Server
 serverAt l s = serverOf (part l (serverPlace s) serverWidth)

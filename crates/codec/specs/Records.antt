@@ -3,7 +3,7 @@
 -- whose numbers fit (`ViewFits` ..); bytes to record to bytes is in Spelling. Used by the code of `records` and by Places.
 use mathlib.Core.Path.{_≡_, refl, ap, sym}
 use mathlib.Core.Bool.{Bool, true, false, not, _&&_, _||_}
-use mathlib.Core.List.{List, _∷_, _++_}
+use mathlib.Core.List.{List, [], _∷_, _++_}
 use Prim.Native.Nat.{ℕ, _<_, _^_}
 use lib.ListN.{getD, length, replicate}
 use lib.Dec.{eqb, leb}
@@ -23,7 +23,7 @@ use Rattle.protocol.specs.Clients.{number, requestOf, endOf, isEnding}
 use Rattle.protocol.specs.Runs.{u16At, u32At}
 use Rattle.codec.specs.Layout.{version, versionPlace, administratorPlace, administratorWidth, headerSparePlace, headerSpare, headerWidth}
 use Rattle.codec.specs.Layout.{countPlace, writerPlace, entrySparePlace, entrySpare, valuePlace, entryRestPlace, entryRest, entryWidth}
-use Rattle.codec.specs.Layout.{membersPlace, thresholdPlace, viewSparePlace, viewSpare, viewWidth, newestPlace, endingPlace, endPlace}
+use Rattle.codec.specs.Layout.{membersPlace, thresholdPlace, viewSparePlace, viewSpare, viewWidth, holderWidth, newestPlace, endingPlace, endPlace}
 use Rattle.codec.specs.Layout.{serverViewPlace, faultyPlace, serverSparePlace, serverSpare, keysPlace, serverEntryPlace, serverWidth}
 use Rattle.codec.specs.Layout.{phasePlace, clientKindPlace, clientRequestPlace, clientEntryPlace, givenPlace, clientWidth}
 use Rattle.codec.specs.Layout.{messageKindPlace, senderPlace, messageViewPlace, takenPlace, messageRequestPlace, nextPlace, messageEntryPlace, messageWidth}
@@ -57,6 +57,10 @@ viewBytes v = le32 (v .members .0) ++ (v .f ∷ replicate viewSpare 0)
 
 unfoldable pub viewPlain : List ℕ → Bool
 viewPlain b = zeros b viewSparePlace viewSpare
+
+-- "for each view a byte with the number of its faulty key holders"
+unfoldable pub holderBytes : ℕ → List ℕ
+holderBytes n = n ∷ []
 
 -- "Server: view u8 (0 none yet), faulty u8, 2 zero, key bits u32 (bit t-1), entry."
 unfoldable pub serverOf : List ℕ → Server
@@ -155,6 +159,10 @@ length-entryBytes e = refl
 pub length-viewBytes : (v : View) → length (viewBytes v) ≡ viewWidth
 unfolding viewBytes
 length-viewBytes v = refl
+
+pub length-holderBytes : (n : ℕ) → length (holderBytes n) ≡ holderWidth
+unfolding holderBytes
+length-holderBytes n = refl
 
 pub length-serverBytes : (s : Server) → length (serverBytes s) ≡ serverWidth
 unfolding serverBytes entryBytes

@@ -4,8 +4,8 @@ use protocol::limits::MESSAGES;
 use protocol::limits::SERVERS;
 use protocol::limits::VIEWS;
 
-// "the version becomes 2"
-pub const VERSION: u16 = 2;
+// "version 3"
+pub const VERSION: u16 = 3;
 
 // The widths of numbers.
 pub const U8: usize = 1;
@@ -41,6 +41,9 @@ pub const VIEW_SPARE_AT: usize = THRESHOLD_AT + U8;
 pub const VIEW_SPARE: usize = 3;
 
 pub const VIEW: usize = VIEW_SPARE_AT + VIEW_SPARE;
+
+// "for each view a byte with the number of its faulty key holders"
+pub const HOLDER: usize = U8;
 
 // "Server: view u8 (0 none yet), faulty u8, 2 zero, key bits u32 (bit t-1), entry."
 pub const SERVER_VIEW_AT: usize = 0;
@@ -130,10 +133,13 @@ pub const STEP_VALUE_AT: usize = SOURCE_AT + U16;
 
 pub const STEP: usize = STEP_VALUE_AT + U32;
 
-// "header 16; views 1 to 32 ...; servers 1 to 32 ...; clients 1 to 16 ...; messages 0 to 1,023": where each group begins
+// "header 16; views 1 to 32 ...; servers 1 to 32 ...; clients 1 to 16 ...; messages 0 to 1,023", and "32 bytes after the views": where
+// each group begins
 pub const VIEWS_AT: usize = HEADER;
 
-pub const SERVERS_AT: usize = VIEWS_AT + (VIEWS as usize) * VIEW;
+pub const HOLDERS_AT: usize = VIEWS_AT + (VIEWS as usize) * VIEW;
+
+pub const SERVERS_AT: usize = HOLDERS_AT + (VIEWS as usize) * HOLDER;
 
 pub const CLIENTS_AT: usize = SERVERS_AT + (SERVERS as usize) * SERVER;
 

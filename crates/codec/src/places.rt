@@ -4,17 +4,21 @@ ghost use Prim.Native.Nat.{_≤_};
 ghost use lib.ListN.{length};
 ghost use Rattle.protocol.specs.Sizes.{clients, servers, views, messages};
 ghost use Rattle.codec.specs.Layout.{imageSize};
-ghost use Rattle.codec.specs.Places.{usedAt, putUsed, administratorAt, putAdministrator, viewAt, putView, serverAt, putServer, clientAt, putClient, messageAt, putMessage};
+ghost use Rattle.codec.specs.Places.{usedAt, putUsed, administratorAt, putAdministrator, viewAt, putView, holderAt, putHolder, serverAt, putServer, clientAt, putClient, messageAt, putMessage};
 use super::bytes::get16;
+use super::bytes::put8;
 use super::bytes::put16;
 use super::layout::ADMINISTRATOR;
 use super::layout::ADMINISTRATOR_AT;
 use super::layout::CLIENT;
 use super::layout::CLIENTS_AT;
+use super::layout::HOLDER;
+use super::layout::HOLDERS_AT;
 use super::layout::MESSAGE;
 use super::layout::MESSAGES_AT;
 use super::layout::SERVER;
 use super::layout::SERVERS_AT;
+use super::layout::THRESHOLD_AT;
 use super::layout::USED_AT;
 use super::layout::VIEW;
 use super::layout::VIEWS_AT;
@@ -81,6 +85,32 @@ pub fn store_view(image: &mut [u8], t: ViewNumber, v: View)
 {
     let n = t.0;
     write_view(image, VIEWS_AT + VIEW * (n as usize - 1), v);
+}
+
+// The threshold of view t alone.
+pub fn load_threshold(image: &[u8], t: ViewNumber) -> u8
+    requires { ⌜ (length (now image) ≡ imageSize) × (1 ≤ t .0) × (t .0 ≤ views) ⌝ }
+    ensures { λ r. ⌜ r ≡ viewAt (now (image .entry)) (t .0) .f ⌝ }
+{
+    let n = t.0;
+    image[VIEWS_AT + VIEW * (n as usize - 1) + THRESHOLD_AT]
+}
+
+// The number of the faulty key holders of view t.
+pub fn load_holders(image: &[u8], t: ViewNumber) -> u8
+    requires { ⌜ (length (now image) ≡ imageSize) × (1 ≤ t .0) × (t .0 ≤ views) ⌝ }
+    ensures { λ r. ⌜ r ≡ holderAt (now (image .entry)) (t .0) ⌝ }
+{
+    let n = t.0;
+    image[HOLDERS_AT + HOLDER * (n as usize - 1)]
+}
+
+pub fn store_holders(image: &mut [u8], t: ViewNumber, k: u8)
+    requires { ⌜ (length (now image) ≡ imageSize) × (1 ≤ t .0) × (t .0 ≤ views) ⌝ }
+    ensures { λ _. ⌜ now (image .exit) ≡ putHolder (now (image .entry)) (t .0) k ⌝ }
+{
+    let n = t.0;
+    put8(image, HOLDERS_AT + HOLDER * (n as usize - 1), k);
 }
 
 pub fn load_server(image: &[u8], s: ServerNumber) -> Server

@@ -10,8 +10,10 @@ ghost use Rattle.loads.specs.Load.{loadOn};
 ghost use Rattle.judging.specs.Verdict.{judged, listedIn, operationsIn};
 ghost use Rattle.shorten.specs.Journals.{shortenOn};
 ghost use Rattle.vouch.specs.Checks.{vouchOn, thresholdOn, Leaves};
-ghost use Rattle.exports.specs.Answers.{packed, flagged, packedReplay};
+ghost use Rattle.exports.specs.Answers.{packed, flagged, packedReplay, firstWidth, firstIn, watchLent};
 ghost use Rattle.single.specs.Calls.{serverCall, replied, serverLeft, clientCall, completed, clientLeft, administratorCall, accepted, administratorLeft};
+use codec::bytes::put32;
+use codec::layout::U32;
 use codec::records::write_administrator;
 use codec::records::write_client;
 use codec::records::write_server;
@@ -19,14 +21,18 @@ use image::fresh::fresh;
 use image::premise::Report;
 use image::premise::premise;
 use journal::Replayed;
+use journal::Watched;
 use journal::replay::replay;
 use journal::replay::resume;
+use journal::watch::watch;
 use judging::Judgement;
 use judging::judge::judge;
 use loads::journal::load;
 use protocol::Called;
 use protocol::Closing;
 use protocol::Served;
+use protocol::refusals::UNREADABLE;
+use protocol::refusals::WRONG_LENGTH;
 use shorten::Shortened;
 use shorten::shorten::shorten;
 use single::calls::administrator_call;
@@ -102,6 +108,45 @@ pub extern "C" fn zw_replay(image: &mut [u8], journal: &[u8]) -> u64
 {
     let done = replay(image, journal);
     packed(done)
+}
+
+// The length of the buffer for the step that a watched replay names, and how far its lower half counts.
+const FIRST: usize = 2 * U32;
+
+const HALF: u64 = 4294967296;
+
+// The step named by a replay that was watched, unless it was refused with 1 or 2.
+fn write_first(first: &mut [u8], done: Watched)
+    requires { ⌜ length (now first) ≡ firstWidth ⌝ }
+    ensures { λ _. ⌜ now (first .exit) ≡ firstIn (now (first .entry)) (done .refusal) (done .first) ⌝ }
+{
+    let refusal = done.refusal;
+    if refusal == WRONG_LENGTH {
+        return;
+    }
+    if refusal == UNREADABLE {
+        return;
+    }
+    let n = done.first as u64;
+    put32(first, 0, (n % HALF) as u32);
+    put32(first, U32, (n / HALF) as u32);
+}
+
+// "A second form of replay also names ... the first accepted step after which the premise does not hold, or 0": refusal, steps done;
+// the step named is written as a u64.
+#[no_mangle]
+pub extern "C" fn zw_watch(image: &mut [u8], journal: &[u8], first: &mut [u8]) -> u64
+    ensures { λ r. ⌜ (r ≡ packedReplay (watchLent (now (image .entry)) (now (journal .entry)) (now (first .entry)) .played)) × (now (image .exit) ≡ watchLent (now (image .entry)) (now (journal .entry)) (now (first .entry)) .played .image) × (now (first .exit) ≡ watchLent (now (image .entry)) (now (journal .entry)) (now (first .entry)) .first) ⌝ }
+{
+    if first.len() != FIRST {
+        return WRONG_LENGTH as u64;
+    }
+    let done = watch(image, journal);
+    write_first(first, done);
+    packed(Replayed {
+        steps: done.steps,
+        refusal: done.refusal,
+    })
 }
 
 // "The rest of the journal after the last accepted step can be replayed": what is left of it after its first steps. Refusal, steps

@@ -47,6 +47,22 @@ unfolding countTo
 count-ext p q zero h = refl
 count-ext p q (suc n) h = rw (count-ext p q n (less h), top h)
 
+-- tests that differ at s alone
+pub count-but : (p q : ℕ → Bool) (s n : ℕ) → 1 ≤ s → s ≤ n → ((k : ℕ) → (k ≡ s → ⊥) → p k ≡ q k) → countTo p n + bit (q s) ≡ countTo q n + bit (p s)
+unfolding countTo
+count-but p q s zero a b h = absurd (omega arith)
+count-but p q s (suc n) a b h =
+    elim (decLt s (suc n)) [
+      | yes l ↦
+          let ih = count-but p q s n a (omega arith) h in
+          let e : bit (p (suc n)) ≡ bit (q (suc n)) = ap (λ (t : Bool). bit t) (h (suc n) (λ k. omega arith)) in
+          omega arith
+      | no l ↦
+          let e : s ≡ suc n = omega arith in
+          let c : countTo p n ≡ countTo q n = count-ext p q n (record { one = λ k x y. h k (λ z. omega arith) }) in
+          rw (e, c) (omega arith)
+    ]
+
 pub count-none : (p : ℕ → Bool) (n : ℕ) → Each n (λ k. p k ≡ false) → countTo p n ≡ 0
 unfolding countTo
 count-none p zero h = refl
@@ -66,7 +82,7 @@ count-same p q (suc n) h e =
     let b = bit-imp (p (suc n)) (q (suc n)) (top h) in
     upto n (count-same p q n (less h) (omega arith)) (bit-same (p (suc n)) (q (suc n)) (omega arith))
 
-bit-or : (a b : Bool) → (a ≡ true → b ≡ false) → bit (a || b) ≡ bit a + bit b
+pub bit-or : (a b : Bool) → (a ≡ true → b ≡ false) → bit (a || b) ≡ bit a + bit b
 bit-or true b f = rw (f refl)
 bit-or false true f = refl
 bit-or false false f = refl

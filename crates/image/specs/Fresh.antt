@@ -1,30 +1,31 @@
 -- The fresh world's image. Assumes nothing.
-use mathlib.Core.Path.{_≡_, refl, sym, ap, _∙_}
-use mathlib.Core.Bool.{false}
+use mathlib.Core.Path.{_≡_, refl, sym, ap, ap₂, _∙_}
+use mathlib.Core.Bool.{Bool, true, false}
 use mathlib.Core.List.{List, _++_}
 use Prim.Native.Nat.{ℕ, zero, suc, _+_, _*_, _-_, _≤_}
 use native.Mathlib.Nat.{not-suc-le-zero}
 use native.Mathlib.Numerals.{add-one}
 use native.Mathlib.Omega.{arith}
 use native.Mathlib.Decide.{decLt}
-use lib.ListN.{length, replicate, length-replicate, replicate-append-replicate}
+use lib.ListN.{length, replicate, length-replicate, getD-replicate, replicate-append-replicate}
 use lib.Seq.{getD-set-same, getD-set-other}
 use lib.Dec.{eqb}
 use Rattle.protocol.specs.declared.View.{View}
 use Rattle.protocol.specs.declared.Server.{Server}
 use Rattle.protocol.specs.declared.Administrator.{Administrator}
 use Rattle.protocol.specs.declared.Ending.the-variants.{Settled}
-use Rattle.protocol.specs.Tools.{nth, replace, Result, refused, done, guard}
+use Rattle.protocol.specs.Tools.{if, holds, nth, replace, Result, refused, done, guard}
 use Rattle.protocol.specs.Sizes.{clients, servers, views, messages}
 use Rattle.protocol.specs.Entries.{empty}
-use Rattle.protocol.specs.Worlds.{World, withView, withServer, noView, noServer, noClient, noMessage, freshServer, listTo, freshWorld, fresh}
-use Rattle.codec.specs.Layout.{version, versionPlace, imageSize, headerWidth, viewWidth, serverWidth, clientWidth, messageWidth}
+use Rattle.protocol.specs.Worlds.{World, server, bad, withView, withServer, noView, noServer, noClient, noMessage, freshServer, listTo, freshWorld, fresh}
+use Rattle.codec.specs.Layout.{version, versionPlace, imageSize, headerWidth, viewWidth, holderWidth, serverWidth, clientWidth, messageWidth}
 use Rattle.codec.specs.Bytes.{le16}
-use Rattle.codec.specs.Lists.{put, flat, flat-zeros, listTo-nth, length-replace}
-use Rattle.codec.specs.Records.{headerBytes, administratorBytes, viewBytes, serverBytes, clientBytes, messageBytes, entryBytes}
+use Rattle.codec.specs.Lists.{put, flat, flat-zeros, nth-listTo, listTo-nth, length-replace}
+use Rattle.codec.specs.Records.{headerBytes, administratorBytes, viewBytes, holderBytes, serverBytes, clientBytes, messageBytes, entryBytes}
 use Rattle.codec.specs.Places.{putView, putServer, putAdministrator}
-use Rattle.codec.specs.Images.{encode}
-use Rattle.codec.specs.Laws.{Full, put-view, put-server, full-view, full-server}
+use Rattle.codec.specs.Images.{holders, holderList, imageWith, encode}
+use Rattle.codec.specs.Laws.{Full, put-view-with, put-server, full-view, full-server}
+use Rattle.image.specs.Holders.{holders-none}
 
 -- an answer's number and the image that a call leaves
 pub record Outcome : Type 0 where
@@ -48,6 +49,18 @@ unfoldable pub seeded : List ℕ → ℕ → ℕ → List ℕ
 seeded l bits zero = l
 seeded l bits (suc n) = putServer (seeded l bits n) (suc n) (freshServer bits (suc n))
 
+-- no view has a faulty key holder
+abbrev none : List ℕ
+none = replicate views 0
+
+length-none : length none ≡ views
+length-none = length-replicate {A = ℕ} views 0
+
+nth-none : (t : ℕ) → t ≤ views → nth none t 0 ≡ 0
+unfolding nth
+nth-none zero h = refl
+nth-none (suc k) h = getD-replicate views k 0 0 h
+
 -- ---- the same on worlds
 
 seededWorld : World → ℕ → ℕ → World
@@ -59,12 +72,12 @@ unfolding seededWorld
 seeded-full w h bits zero = h
 seeded-full w h bits (suc n) = full-server (seededWorld w bits n) (seeded-full w h bits n) (suc n) (freshServer bits (suc n))
 
-seeded-encode : (w : World) → Full w → (bits n : ℕ) → n ≤ servers → seeded (encode w) bits n ≡ encode (seededWorld w bits n)
+seeded-image : (w : World) → Full w → (bits n : ℕ) → n ≤ servers → seeded (imageWith w none) bits n ≡ imageWith (seededWorld w bits n) none
 unfolding seeded seededWorld
-seeded-encode w h bits zero l = refl
-seeded-encode w h bits (suc n) l =
-    ap (λ (i : List ℕ). putServer i (suc n) (freshServer bits (suc n))) (seeded-encode w h bits n (omega arith))
-    ∙ put-server (seededWorld w bits n) (seeded-full w h bits n) (suc n) (omega arith) l (freshServer bits (suc n))
+seeded-image w h bits zero l = refl
+seeded-image w h bits (suc n) l =
+    ap (λ (i : List ℕ). putServer i (suc n) (freshServer bits (suc n))) (seeded-image w h bits n (omega arith))
+    ∙ put-server (seededWorld w bits n) none (seeded-full w h bits n) length-none (suc n) (omega arith) l (freshServer bits (suc n))
 
 -- ---- its list of servers
 
@@ -143,31 +156,34 @@ headed-zeros : (n : ℕ) → putAdministrator (put (replicate (headerWidth + n) 
 unfolding putAdministrator put headerBytes administratorBytes
 headed-zeros n = rw (← replicate-append-replicate {A = ℕ} headerWidth n 0)
 
-join4 : {a b c d a′ b′ c′ d′ : List ℕ} → a ≡ a′ → b ≡ b′ → c ≡ c′ → d ≡ d′ → a ++ (b ++ (c ++ d)) ≡ a′ ++ (b′ ++ (c′ ++ d′))
-join4 p q r s = λ i. p i ++ (q i ++ (r i ++ s i))
+join5 : {a b c d e a′ b′ c′ d′ e′ : List ℕ} → a ≡ a′ → b ≡ b′ → c ≡ c′ → d ≡ d′ → e ≡ e′ → a ++ (b ++ (c ++ (d ++ e))) ≡ a′ ++ (b′ ++ (c′ ++ (d′ ++ e′)))
+join5 p q r s t = λ i. p i ++ (q i ++ (r i ++ (s i ++ t i)))
 
 abbrev zeros : ℕ → List ℕ
 zeros n = replicate n 0
 
-zeros4 : (a b c d : ℕ) → zeros a ++ (zeros b ++ (zeros c ++ zeros d)) ≡ zeros (a + (b + (c + d)))
-zeros4 a b c d =
+zeros5 : (a b c d e : ℕ) → zeros a ++ (zeros b ++ (zeros c ++ (zeros d ++ zeros e))) ≡ zeros (a + (b + (c + (d + e))))
+zeros5 a b c d e =
     rw (
-      replicate-append-replicate {A = ℕ} c d 0,
-      replicate-append-replicate {A = ℕ} b (c + d) 0,
-      replicate-append-replicate {A = ℕ} a (b + (c + d)) 0,
+      replicate-append-replicate {A = ℕ} d e 0,
+      replicate-append-replicate {A = ℕ} c (d + e) 0,
+      replicate-append-replicate {A = ℕ} b (c + (d + e)) 0,
+      replicate-append-replicate {A = ℕ} a (b + (c + (d + e))) 0,
     )
 
 zero-groups : (n m k j : ℕ)
-    → flat viewBytes (replicate n noView) ++ (flat serverBytes (replicate m noServer) ++ (flat clientBytes (replicate k noClient) ++ flat messageBytes (replicate j noMessage)))
-    ≡ replicate (n * viewWidth + (m * serverWidth + (k * clientWidth + j * messageWidth))) 0
-unfolding viewBytes serverBytes clientBytes messageBytes entryBytes
+    → flat viewBytes (replicate n noView)
+    ++ (flat holderBytes (replicate n 0)
+    ++ (flat serverBytes (replicate m noServer) ++ (flat clientBytes (replicate k noClient) ++ flat messageBytes (replicate j noMessage))))
+    ≡ replicate (n * viewWidth + (n * holderWidth + (m * serverWidth + (k * clientWidth + j * messageWidth)))) 0
+unfolding viewBytes holderBytes serverBytes clientBytes messageBytes entryBytes
 zero-groups n m k j =
-    join4 (flat-zeros viewBytes viewWidth noView refl n) (flat-zeros serverBytes serverWidth noServer refl m) (flat-zeros clientBytes clientWidth noClient refl k)
-    (flat-zeros messageBytes messageWidth noMessage refl j)
-    ∙ zeros4 (n * viewWidth) (m * serverWidth) (k * clientWidth) (j * messageWidth)
+    join5 (flat-zeros viewBytes viewWidth noView refl n) (flat-zeros holderBytes holderWidth 0 refl n) (flat-zeros serverBytes serverWidth noServer refl m)
+    (flat-zeros clientBytes clientWidth noClient refl k) (flat-zeros messageBytes messageWidth noMessage refl j)
+    ∙ zeros5 (n * viewWidth) (n * holderWidth) (m * serverWidth) (k * clientWidth) (j * messageWidth)
 
-blank-image : putAdministrator (put (replicate imageSize 0) versionPlace (le16 version)) firstView ≡ encode blank
-unfolding encode blank
+blank-image : putAdministrator (put (replicate imageSize 0) versionPlace (le16 version)) firstView ≡ imageWith blank none
+unfolding imageWith blank
 blank-image =
     headed-zeros (imageSize - headerWidth) ∙ ap (λ (l : List ℕ). headerBytes 0 firstView ++ l) (sym (zero-groups views servers clients (suc messages)))
 
@@ -177,14 +193,30 @@ seeded-fresh v =
     seeded-servers (withView blank 1 v) (v .members .0) servers
     ∙ rw (← seeded-list (replicate servers noServer) (v .members .0) (length-replicate servers noServer))
 
+-- no server of the fresh world is faulty
+fresh-correct : (v : View) (s : ℕ) → 1 ≤ s → s ≤ servers → server (freshWorld v) s .faulty ≡ false
+unfolding freshWorld server
+fresh-correct v s a b = ap (λ (x : Server). x .faulty) (nth-listTo (freshServer (v .members .0)) servers s noServer a b) ∙ go (holds (v .members .0) s)
+  where
+    go : (t : Bool) → if t (idleServer 1 1) noServer .faulty ≡ false
+    go true = refl
+    go false = refl
+
+fresh-holders : (v : View) → holderList (freshWorld v) ≡ none
+unfolding holderList bad
+fresh-holders v =
+    listTo-nth (holders (freshWorld v)) none 0 views length-none
+    (λ t a b. holders-none (freshWorld v) t (λ s c d. rw (fresh-correct v s c d)) ∙ sym (nth-none t b))
+
 -- "Members hold view 1, key 1 and the empty entry; all else is zero but version and newest view 1."
 fresh-image : (v : View)
     → seeded (putView (putAdministrator (put (replicate imageSize 0) versionPlace (le16 version)) firstView) 1 v) (v .members .0) servers ≡ encode (freshWorld v)
+unfolding encode
 fresh-image v =
     ap (λ (i : List ℕ). seeded (putView i 1 v) (v .members .0) servers) blank-image
-    ∙ ap (λ (i : List ℕ). seeded i (v .members .0) servers) (put-view blank blank-full 1 (omega arith) (omega arith) v)
-    ∙ seeded-encode (withView blank 1 v) (full-view blank blank-full 1 v) (v .members .0) servers (omega arith)
-    ∙ ap encode (seeded-fresh v)
+    ∙ ap (λ (i : List ℕ). seeded i (v .members .0) servers) (put-view-with blank none blank-full length-none 1 (omega arith) (omega arith) v)
+    ∙ seeded-image (withView blank 1 v) (full-view blank blank-full 1 v) (v .members .0) servers (omega arith)
+    ∙ ap₂ (λ (w : World) (c : List ℕ). imageWith w c) (seeded-fresh v) (sym (fresh-holders v))
 
 pub fresh-stored : (i : List ℕ) (v : View) → length i ≡ imageSize
     → seeded (putView (putAdministrator (put (replicate (length i) 0) versionPlace (le16 version)) firstView) 1 v) (v .members .0) servers ≡ encode (freshWorld v)

@@ -1,5 +1,6 @@
 pub mod Tests
 pub mod Counts
+pub mod Holders
 pub mod Links
 pub mod Formed
 pub mod Chains

@@ -6,7 +6,7 @@ use Prim.Native.Nat.{ℕ, zero, suc, _≤_}
 use native.Mathlib.Omega.{arith}
 use lib.ListN.{length}
 use lib.Dec.{ltb, leb, eqb}
-use borrow.Author.Tests.{ne-eqb}
+use borrow.Author.Tests.{eqb-true, eq-eqb, ne-eqb}
 use Rattle.protocol.specs.declared.MessageNumber.{MessageNumber}
 use Rattle.protocol.specs.declared.Ending.the-variants.{EndSent}
 use Rattle.protocol.specs.declared.Administrator.{Administrator}
@@ -30,6 +30,7 @@ use Rattle.protocol.specs.Readable.{viewRule, serverRule, messageRule}
 use Rattle.protocol.specs.Laws.Tests.{allTo-at, all-to}
 use Rattle.image.specs.Tests.{as-one}
 use Rattle.image.specs.Counts.{Each}
+use Rattle.image.specs.Holders.{holderOk, Served}
 use Rattle.protocol.specs.Laws.Formed.{formed, well-formed, header-of, header-parts}
 use Rattle.image.specs.Formed.{Headed, headed, present-in}
 use Rattle.image.specs.Chains.{chainSound, links, isTaken, chainsFit, chains-fit, taken-parts}
@@ -63,7 +64,7 @@ unfoldable pub scanned : List ℕ → Bool
 scanned i =
     headerOk i
     && (allTo (viewOk i) views
-    && (allTo (serverOk i) servers && (allTo (clientOk i) clients && (messagesOk i && chainsFit (decode i)))))
+    && (allTo (serverOk i) servers && (allTo (clientOk i) clients && (messagesOk i && (chainsFit (decode i) && allTo (holderOk i) views)))))
 
 -- an image of the right length with a header that fits
 pub record Open (i : List ℕ) : Type 0 where
@@ -95,6 +96,12 @@ open-used i o = o .head .used
 pub open-high : (i : List ℕ) → Open i → administratorAt i .newest .0 ≤ views
 unfolding decode
 open-high i o = o .head .high
+
+-- every server was tested
+pub servers-served : (i : List ℕ) → allTo (serverOk i) servers ≡ true → Served (decode i)
+unfolding serverOk
+servers-served i e =
+    record { one = λ s a b. both (serverPlainAt i s) (serverFits (decode i) s) (allTo-at (serverOk i) servers s e a b) .1 }
 
 -- ---- a record's clause is that of the record in the image
 
@@ -158,7 +165,7 @@ module _ (i : List ℕ) (size : length i ≡ imageSize) (bytes : Bytes i) where
   messages-used w u f = record { one = λ k a b. f k a (omega arith) }
 
   read-scan : Read i → scanned i ≡ true
-  unfolding scanned headerOk viewOk serverOk clientOk messagesOk firstOk messageOk
+  unfolding scanned headerOk viewOk serverOk clientOk messagesOk firstOk messageOk holderOk
   read-scan r =
       let p = plain-image i (r .image) in
       let f = formed (decode i) (r .world) in
@@ -169,16 +176,18 @@ module _ (i : List ℕ) (size : length i ≡ imageSize) (bytes : Bytes i) where
       (join
       (join (join (p .message 0 (omega arith)) (f .zero))
       (both-all (messagePlainAt i) (messageFits (decode i)) messages (λ k a b. p .message k b) (f .mail)))
-      (sym (chains-fit (decode i) (messages-used (decode i) (f .full) (f .mail))) ∙ all-to (chainFits (decode i)) (decode i .used) (f .chained))))))
+      (join (sym (chains-fit (decode i) (messages-used (decode i) (f .full) (f .mail))) ∙ all-to (chainFits (decode i)) (decode i .used) (f .chained))
+      (all-to (holderOk i) views (λ t a b. eq-eqb _ _ (p .holder t a b))))))))
 
   scan-read : scanned i ≡ true → Read i
-  unfolding scanned headerOk viewOk serverOk clientOk messagesOk firstOk messageOk
+  unfolding scanned headerOk viewOk serverOk clientOk messagesOk firstOk messageOk holderOk
   scan-read e =
-      let a = both (headerOk i) (allTo (viewOk i) views && (allTo (serverOk i) servers && (allTo (clientOk i) clients && (messagesOk i && chainsFit (decode i))))) e in
-      let b = both (allTo (viewOk i) views) (allTo (serverOk i) servers && (allTo (clientOk i) clients && (messagesOk i && chainsFit (decode i)))) (a .1) in
-      let c = both (allTo (serverOk i) servers) (allTo (clientOk i) clients && (messagesOk i && chainsFit (decode i))) (b .1) in
-      let d = both (allTo (clientOk i) clients) (messagesOk i && chainsFit (decode i)) (c .1) in
-      let f = both (messagesOk i) (chainsFit (decode i)) (d .1) in
+      let a = both (headerOk i) (allTo (viewOk i) views && (allTo (serverOk i) servers && (allTo (clientOk i) clients && (messagesOk i && (chainsFit (decode i) && allTo (holderOk i) views))))) e in
+      let b = both (allTo (viewOk i) views) (allTo (serverOk i) servers && (allTo (clientOk i) clients && (messagesOk i && (chainsFit (decode i) && allTo (holderOk i) views)))) (a .1) in
+      let c = both (allTo (serverOk i) servers) (allTo (clientOk i) clients && (messagesOk i && (chainsFit (decode i) && allTo (holderOk i) views))) (b .1) in
+      let d = both (allTo (clientOk i) clients) (messagesOk i && (chainsFit (decode i) && allTo (holderOk i) views)) (c .1) in
+      let f = both (messagesOk i) (chainsFit (decode i) && allTo (holderOk i) views) (d .1) in
+      let j = both (chainsFit (decode i)) (allTo (holderOk i) views) (f .1) in
       let g = both (firstOk i) (allTo (messageOk i) messages) (f .0) in
       let h = both (headerPlain (part i 0 headerWidth)) (headerFits (decode i)) (a .0) in
       let z = both (messagePlainAt i 0) (zeroMessage (message (decode i) 0)) (g .0) in
@@ -189,6 +198,7 @@ module _ (i : List ℕ) (size : length i ≡ imageSize) (bytes : Bytes i) where
         header = h .0;
         view = left-all (viewPlainAt i) (viewFits (decode i)) views (b .0);
         server = left-all (serverPlainAt i) (serverFits (decode i)) servers (c .0);
+        holder = λ t a b. eqb-true _ _ (allTo-at (holderOk i) views t (j .1) a b);
         client = left-all (clientPlainAt i) (clientFits (decode i)) clients (d .0);
         message = λ n y. from-zero (messagePlainAt i) messages (z .0) (left-all (messagePlainAt i) (messageFits (decode i)) messages (g .1)) n y;
       } in
@@ -210,7 +220,7 @@ module _ (i : List ℕ) (size : length i ≡ imageSize) (bytes : Bytes i) where
               client = right-all (clientPlainAt i) (clientFits (decode i)) clients (d .0);
               zero = z .1;
               mail = m;
-              chained = λ r. allTo-at (chainFits (decode i)) (decode i .used) r (chains-fit (decode i) (messages-used (decode i) (head .0) m) ∙ f .1);
+              chained = λ r. allTo-at (chainFits (decode i)) (decode i .used) r (chains-fit (decode i) (messages-used (decode i) (head .0) m) ∙ j .0);
             });
       }
 

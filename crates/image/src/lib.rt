@@ -2,6 +2,7 @@
 pub mod beyond;
 pub mod chain;
 pub mod fresh;
+mod holders;
 pub mod premise;
 pub mod readable;
 mod sent;

@@ -1,25 +1,26 @@
 // The premise report.
+ghost use mathlib.Core.Bool.{true};
 ghost use mathlib.Core.Path.{_≡_};
-ghost use Prim.Native.Nat.{_≤_};
+ghost use Prim.Native.Nat.{_+_, _≤_};
 ghost use lib.ListN.{length};
-ghost use Rattle.protocol.specs.Tools.{bit, countTo};
-ghost use Rattle.protocol.specs.Sizes.{servers, views};
-ghost use Rattle.protocol.specs.Worlds.{bad, premise as premiseOf};
+ghost use Rattle.protocol.specs.Tools.{allTo};
+ghost use Rattle.protocol.specs.Sizes.{views};
+ghost use Rattle.protocol.specs.Worlds.{premise as premiseOf};
 ghost use Rattle.codec.specs.Layout.{imageSize};
-ghost use Rattle.codec.specs.Places.{administratorAt};
 ghost use Rattle.codec.specs.Images.{decode};
-ghost use Rattle.image.specs.Premise.{within, premiseOn, reported};
+ghost use Rattle.image.specs.Readable.{readable as isReadable};
+ghost use Rattle.image.specs.Premise.{within, group, premiseOn, reported};
 use super::readable::readable;
+use codec::bytes::get32;
+use codec::layout::HOLDER;
+use codec::layout::HOLDERS_AT;
 use codec::layout::IMAGE;
-use codec::places::load_administrator;
-use codec::places::load_server;
-use codec::places::load_view;
-use protocol::ServerNumber;
+use codec::places::load_holders;
+use codec::places::load_threshold;
 use protocol::ViewNumber;
-use protocol::limits::SERVERS;
+use protocol::limits::VIEWS;
 use protocol::refusals::UNREADABLE;
 use protocol::refusals::WRONG_LENGTH;
-use values::sets::has_key;
 
 // A refusal, or whether no view has more faulty key holders than its threshold.
 pub enum Report {
@@ -28,49 +29,46 @@ pub enum Report {
     Fails,
 }
 
-// "a faulty server counts against view t as long as it holds key t"
-fn bad_server(image: &[u8], t: ViewNumber, s: ServerNumber) -> u32
-    requires { ⌜ (length (now image) ≡ imageSize) × (1 ≤ t .0) × (t .0 ≤ views) × (1 ≤ s .0) × (s .0 ≤ servers) ⌝ }
-    ensures { λ r. ⌜ r ≡ bit (bad (decode (now (image .entry))) (t .0) (s .0)) ⌝ }
-{
-    let v = load_server(image, s);
-    if !v.faulty {
-        return 0;
-    }
-    let keys = v.keys;
-    let held = has_key(keys, t);
-    held as u32
-}
-
-fn bad_servers(image: &[u8], t: ViewNumber) -> u32
-    requires { ⌜ (length (now image) ≡ imageSize) × (1 ≤ t .0) × (t .0 ≤ views) ⌝ }
-    ensures { λ r. ⌜ r ≡ countTo (bad (decode (now (image .entry))) (t .0)) servers ⌝ }
-{
-    let mut n = 0u32;
-    for k in 0..SERVERS {
-        n += bad_server(image, t, ServerNumber(k + 1));
-    }
-    n
-}
-
+// No more faulty servers hold key t than its threshold, by the byte that counts them.
 fn view_holds(image: &[u8], t: ViewNumber) -> bool
     requires { ⌜ (length (now image) ≡ imageSize) × (1 ≤ t .0) × (t .0 ≤ views) ⌝ }
-    ensures { λ r. ⌜ r ≡ within (decode (now (image .entry))) (t .0) ⌝ }
+    ensures { λ r. ⌜ r ≡ within (now (image .entry)) (t .0) ⌝ }
 {
-    let n = bad_servers(image, t);
-    let v = load_view(image, t);
-    n <= v.f as u32
+    let n = load_holders(image, t);
+    let f = load_threshold(image, t);
+    n <= f
 }
 
-// "The premise holds if no view t has more than f(t) such servers"
-fn premise_holds(image: &[u8], newest: ViewNumber) -> bool
-    requires { ⌜ (length (now image) ≡ imageSize) × (newest .0 ≤ views) × (newest .0 ≡ administratorAt (now image) .newest .0) ⌝ }
-    ensures { λ r. ⌜ r ≡ premiseOf (decode (now (image .entry))) ⌝ }
+// The views whose bytes are read as one u32.
+const GROUP: u8 = 4;
+
+// The same of the views k + 1 to k + 4. Most have no faulty key holder: then their bytes are zero, and nothing else is read.
+fn group_holds(image: &[u8], k: u8) -> bool
+    requires { ⌜ (length (now image) ≡ imageSize) × (k + group ≤ views) ⌝ }
+    ensures { λ r. ⌜ r ≡ allTo (λ j. within (now (image .entry)) (k + j)) group ⌝ }
 {
-    for k in 0..newest.0 {
-        if !view_holds(image, ViewNumber(k + 1)) {
+    if get32(image, HOLDERS_AT + HOLDER * (k as usize)) == 0 {
+        return true;
+    }
+    for j in 0..GROUP {
+        if !view_holds(image, ViewNumber(k + (j + 1))) {
             return false;
         }
+    }
+    true
+}
+
+// "The premise holds if no view t has more than f(t) such servers": of a readable image. It reads their bytes and the views' f alone.
+pub fn premise_holds(image: &[u8]) -> bool
+    requires { ⌜ isReadable (now image) ≡ true ⌝ }
+    ensures { λ r. ⌜ r ≡ premiseOf (decode (now (image .entry))) ⌝ }
+{
+    let mut k = 0u8;
+    while k < VIEWS {
+        if !group_holds(image, k) {
+            return false;
+        }
+        k += GROUP;
     }
     true
 }
@@ -85,9 +83,7 @@ pub fn premise(image: &[u8]) -> Report
     if !readable(image) {
         return Report::Refused(UNREADABLE);
     }
-    let a = load_administrator(image);
-    let newest = a.newest;
-    if premise_holds(image, newest) {
+    if premise_holds(image) {
         return Report::Holds;
     }
     Report::Fails

@@ -12,6 +12,7 @@ ghost use Rattle.image.specs.Readable.{readable as isReadable};
 use super::beyond::beyond_zero;
 use super::beyond::first_zero;
 use super::chain::chains_fit;
+use super::holders::holders_ok;
 use super::sent::client_fits;
 use super::sent::header_fits;
 use super::sent::sent_fits;
@@ -196,5 +197,8 @@ pub fn readable(image: &[u8]) -> bool
     if !messages_ok(image, newest) {
         return false;
     }
-    chains_fit(image)
+    if !chains_fit(image) {
+        return false;
+    }
+    holders_ok(image, newest)
 }

@@ -1,2 +1,5 @@
 pub mod Replays
 pub mod Rests
+pub mod Watch
+pub mod Watches
+pub mod Examples

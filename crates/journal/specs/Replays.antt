@@ -127,7 +127,7 @@ module _ (j : List ℕ) (at : ℕ) (whole : length j % stepWidth ≡ 0) (even : 
   fewer : length (drop at j) / stepWidth - 1 ≡ length (drop (at + stepWidth) j) / stepWidth
   fewer = let e = length-drop at j in let f = length-drop (at + stepWidth) j in omega arith
 
-  steps-on : stepsOf (drop at j) ≡ take stepWidth (take (length j - at) (drop at j)) ∷ stepsOf (drop (at + stepWidth) j)
+  pub steps-on : stepsOf (drop at j) ≡ take stepWidth (take (length j - at) (drop at j)) ∷ stepsOf (drop (at + stepWidth) j)
   unfolding stepsOf
   steps-on =
       steps-next (length (drop at j) / stepWidth) (drop at j) (let e = length-drop at j in omega arith)
@@ -140,7 +140,7 @@ step-whole w b e = rw (eq-eqb (length b) stepWidth e) refl
 
 -- what follows from a step of the part from at on
 module _ {l₀ j l : List ℕ} {at : ℕ} (g : Going l₀ j l at) (below : at < length j) where
-  abbrev part : List ℕ
+  abbrev pub part : List ℕ
   part = take stepWidth (take (length j - at) (drop at j))
 
   twelve : length part ≡ stepWidth
@@ -149,7 +149,7 @@ module _ {l₀ j l : List ℕ} {at : ℕ} (g : Going l₀ j l at) (below : at < 
   ahead : replay (decode l₀) (stepsOf j) ≡ after (at / stepWidth) (replay (decode l) (part ∷ stepsOf (drop (at + stepWidth) j)))
   ahead = g .rest ∙ ap (λ (x : List (List ℕ)). after (at / stepWidth) (replay (decode l) x)) (steps-on j at (g .whole) (g .even) below)
 
-  whole-step : stepBytes (decode l) part ≡ step (decode l) (stepOf part)
+  pub whole-step : stepBytes (decode l) part ≡ step (decode l) (stepOf part)
   whole-step = step-whole (decode l) part twelve
 
   pub going-stop : (r : Stepped) (n : ℕ) (l′ : List ℕ) → r ≡ StepRefused n → Does r l l′ (step (decode l) (stepOf part)) → Plays (record { steps = at / stepWidth; refusal = n }) l′ (played (replay (decode l₀) (stepsOf j)))
@@ -180,15 +180,16 @@ module _ {l₀ j l : List ℕ} {at : ℕ} (g : Going l₀ j l at) (below : at < 
           ∙ more (replay (a .world) (stepsOf (drop (at + stepWidth) j)))
           ∙ ap (λ (w : World). after ((at + stepWidth) / stepWidth) (replay w (stepsOf (drop (at + stepWidth) j)))) here
 
-pub going-end : {l₀ j l : List ℕ} {at : ℕ} → Going l₀ j l at → length j ≤ at → Plays (record { steps = at / stepWidth; refusal = 0 }) l (played (replay (decode l₀) (stepsOf j)))
+-- none is left
+pub steps-none : (j : List ℕ) (at : ℕ) → length j ≤ at → stepsOf (drop at j) ≡ []
 unfolding stepsOf stepsIn
+steps-none j at h = let e : length (drop at j) / stepWidth ≡ 0 = (let d = length-drop at j in omega arith) in ap (λ (n : ℕ). stepsIn n (drop at j)) e
+
+pub going-end : {l₀ j l : List ℕ} {at : ℕ} → Going l₀ j l at → length j ≤ at → Plays (record { steps = at / stepWidth; refusal = 0 }) l (played (replay (decode l₀) (stepsOf j)))
 going-end {l₀} {j} {l} {at} g h = rw all (record { steps = omega arith; refusal = refl; image = sym (g .legible .image) })
   where
-    empty : stepsOf (drop at j) ≡ []
-    empty = let e : length (drop at j) / stepWidth ≡ 0 = (let d = length-drop at j in omega arith) in ap (λ (n : ℕ). stepsIn n (drop at j)) e
-
     all : replay (decode l₀) (stepsOf j) ≡ record { world = decode l; steps = 0 + at / stepWidth; refusal = 0 }
-    all = g .rest ∙ ap (λ (x : List (List ℕ)). after (at / stepWidth) (replay (decode l) x)) empty ∙ ap (after (at / stepWidth)) (replay-none (decode l))
+    all = g .rest ∙ ap (λ (x : List (List ℕ)). after (at / stepWidth) (replay (decode l) x)) (steps-none j at h) ∙ ap (after (at / stepWidth)) (replay-none (decode l))
 
 -- ---- any image and any journal
 

@@ -16,7 +16,7 @@ use world::Stepped;
 use world::step::advance;
 
 // The first step of a journal's part.
-fn first(image: &mut [u8], rest: &[u8]) -> Stepped
+pub fn first(image: &mut [u8], rest: &[u8]) -> Stepped
     requires { ⌜ Legible (now image) × (stepWidth ≤ length (now rest)) ⌝ }
     ensures { λ r. ⌜ Does r (now (image .entry)) (now (image .exit)) (stepOf (decode (now (image .entry))) (stepIn (take stepWidth (now (rest .entry))))) ⌝ }
 {

@@ -46,12 +46,12 @@ holds-at bits (suc k) h =
     let e : k ≡ suc k - 1 = omega arith in
     ap (λ (n : ℕ). eqb (bits / 2 ^ n % 2) 1) e
 
--- 32 bits name no number over 32
-pub holds-beyond : (bits k : ℕ) → bits < 2 ^ 32 → 32 < k → holds bits k ≡ false
+-- n bits name no number over n
+pub holds-beyond : (n bits k : ℕ) → bits < 2 ^ n → n < k → holds bits k ≡ false
 unfolding holds
-holds-beyond bits zero b h = absurd (omega arith)
-holds-beyond bits (suc k) b h =
-    let p : 2 ^ 32 ≤ 2 ^ k = pow-mono {i = 32} {j = k} (omega arith) in
+holds-beyond n bits zero b h = absurd (omega arith)
+holds-beyond n bits (suc k) b h =
+    let p : 2 ^ n ≤ 2 ^ k = pow-mono {i = n} {j = k} (omega arith) in
     let e : bits / 2 ^ k ≡ 0 = div-eq-of-lt (omega arith) in
     simp e
 

@@ -6,29 +6,34 @@ use mathlib.Core.Option.{some}
 use mathlib.Core.Path.{_≡_, refl, sym, ap, ap₂, _∙_}
 use mathlib.Core.List.{List}
 use lib.Dec.{eqb, leb}
-use borrow.Author.Tests.{eqb-true, eq-eqb, ne-eqb}
+use lib.Bits.{bitOr}
+use borrow.Author.Tests.{eqb-true, eq-eqb, ne-eqb, le-leb, not-true}
 use Rattle.protocol.specs.declared.Entry.{Entry}
 use Rattle.protocol.specs.declared.Server.{Server}
 use Rattle.protocol.specs.declared.Message.{Message}
 use Rattle.protocol.specs.declared.Shown.{Shown}
 use Rattle.protocol.specs.declared.Replied.{Replied}
 use Rattle.protocol.specs.declared.View.{View}
-use Rattle.protocol.specs.Tools.{if, within, holds, nth, Result, refused, done, guard, then, numberOf}
+use Rattle.protocol.specs.Tools.{if, bit, within, holds, bitOf, nth, Result, refused, done, guard, then, numberOf, passed}
 use Rattle.protocol.specs.Sizes.{servers, views, messages}
 use Rattle.protocol.specs.Entries.{empty}
-use Rattle.protocol.specs.Servers.{WRITE, START, isRequest, asReply, serve, mayAnswer}
+use Rattle.protocol.specs.Servers.{READ, WRITE, START, isRequest, Reply, answering, asReply, write, replacing, withoutKey, gathering, joining, serve, mayAnswer}
 use Rattle.protocol.specs.Worlds.{World, view, server, message, newest, member, present, withServer, send}
 use Rattle.protocol.specs.Steps.{After, answer, answers, deliver, fault, source?, lie}
-use Rattle.protocol.specs.Laws.Tests.{within-true}
-use Rattle.protocol.specs.Laws.Bits.{holds-none}
+use Rattle.protocol.specs.Laws.Tests.{within-true, by-test, clash}
+use Rattle.protocol.specs.Laws.Bits.{holds-none, holds-or, holds-bitOf}
+use Rattle.values.specs.Bits.{bitIn, bit-in}
+use Rattle.image.specs.Tests.{if-true, if-false}
+use Rattle.image.specs.Counts.{bit-or}
 use Rattle.codec.specs.Places.{usedAt, viewAt, serverAt, messageAt, putServer}
-use Rattle.codec.specs.Images.{decode}
+use Rattle.codec.specs.Images.{encode, decode}
 use Rattle.machines.specs.Servers.{serveIn, serve-in, entering, replying, accepting, refused-by, serve-done}
 use Rattle.preservation.specs.Updates.{present-is}
 use Rattle.preservation.specs.Kept.{mailed}
 use Rattle.world.specs.declared.Stepped.the-variants.{StepRefused, StepDone}
 use Rattle.world.specs.Images.{Legible, Does, putSent}
-use Rattle.world.specs.Stored.{refuses, does, whole, used-is, view-is, server-is, message-is, image-of, with-server, with-sent, room-yes, room-no}
+use Rattle.world.specs.Stored.{refuses, does, whole, used-is, view-is, server-is, message-is, image-of, with-sent, room-yes, room-no}
+use Rattle.world.specs.Holders.{raised, gained, gained-key, gained-none, server-kept, server-raised}
 
 kept-used : (w : World) (s : ℕ) (b : Server) (u : ℕ) → u ≡ w .used → u + 1 ≡ withServer w s b .used + 1
 unfolding withServer
@@ -44,6 +49,54 @@ may-done a t m b e = go (isRequest (m .kind) && b) (a .faulty) (holds (a .keys .
     go true true false e = absurd (omega arith)
     go true false z e = absurd (omega arith)
     go false y z e = absurd (omega arith)
+
+-- only a correct server serves kinds 1 to 3
+served-correct : (a : Server) (m : Message) (b : Bool) (r : Reply) → serve a m b ≡ done r → (m .kind ≡ START → ⊥) → a .faulty ≡ false
+unfolding serve
+served-correct a m b r e n =
+    let x = passed _ _ _ _ e .1 in
+    let y = sym (if-false (eqb (m .kind) START) _ _ (ne-eqb _ _ n)) ∙ x in
+    not-true (a .faulty) (passed _ _ _ _ y .0)
+
+-- a faulty one that START reaches lacks its key
+started-lacks : (a : Server) (m : Message) (b : Bool) (r : Reply) → serve a m b ≡ done r → m .kind ≡ START → a .faulty ≡ true → holds (a .keys .0) (m .view .0) ≡ false
+unfolding serve
+started-lacks a m b r e k f =
+    let x = passed _ _ _ _ e .1 in
+    let y = sym (if-true (eqb (m .kind) START) _ _ (eq-eqb _ _ k)) ∙ x in
+    let z = sym (if-true (a .faulty) _ _ f) ∙ passed _ _ _ _ y .1 in
+    not-true (holds (a .keys .0) (m .view .0)) (passed _ _ _ _ z .0)
+
+-- a rule makes no server faulty
+entering-faulty : (a : Server) (m : Message) → entering a m .faulty ≡ a .faulty
+unfolding entering gathering joining
+entering-faulty a m = go (leb (m .view .0) views) (a .faulty)
+  where
+    go : (v f : Bool) → if v (if f (gathering a m) (joining a m)) a .faulty ≡ a .faulty
+    go true true = refl
+    go true false = refl
+    go false f = refl
+
+replying-faulty : (a : Server) (m : Message) → replying a m .server .faulty ≡ a .faulty
+unfolding replying replacing withoutKey
+replying-faulty a m = go (eqb (m .kind) WRITE) (eqb (m .kind) READ)
+  where
+    go : (w r : Bool) → if w (write a (m .entry)) (answering a (if r a (withoutKey a))) .server .faulty ≡ a .faulty
+    go true r = refl
+    go false true = refl
+    go false false = refl
+
+-- a faulty one that START reaches gathers its key
+gathers : (a : Server) (m : Message) → m .view .0 ≤ views → a .faulty ≡ true → entering a m ≡ gathering a m
+unfolding entering
+gathers a m v f = rw (le-leb (m .view .0) views v, f) refl
+
+-- the keys with one that was lacking
+key-gained : (keys t u : ℕ) → t ≤ 32 → holds keys t ≡ false → bit (holds (bitOr keys (bitOf t)) u) ≡ bit (holds keys u) + bit (holds (bitIn t) u)
+key-gained keys t u h n =
+    rw (bit-in t h, holds-or keys (bitOf t) u)
+    (bit-or (holds keys u) (holds (bitOf t) u)
+    (λ e. by-test (holds (bitOf t) u) (λ q. clash (rw (sym (holds-bitOf t u q)) e) n) (λ q. q)))
 
 module _ {l : List ℕ} (h : Legible l) where
   abbrev w : World
@@ -101,10 +154,11 @@ module _ {l : List ℕ} (h : Legible l) where
     unfolding fault guard
     fault-no f = refuses _ 6 l _ refl (rw (own, f) refl)
 
-    pub fault-done : (l′ : List ℕ) → x .faulty ≡ false → l′ ≡ putServer l s (record { view = x .view; faulty = true; keys = x .keys; entry = x .entry }) → Does (StepDone 0) l l′ (fault w s)
+    pub fault-done : (l′ : List ℕ) → x .faulty ≡ false → l′ ≡ putServer (raised l (x .keys .0) views) s (record { view = x .view; faulty = true; keys = x .keys; entry = x .entry }) → Does (StepDone 0) l l′ (fault w s)
     unfolding fault guard
     fault-done l′ f d =
-        does 0 (withServer w s (record { view = x .view; faulty = true; keys = x .keys; entry = x .entry })) l l′ _ (rw (own, f) refl) (d ∙ with-server (image-of h) s a b _ .is)
+        does 0 (withServer w s (record { view = x .view; faulty = true; keys = x .keys; entry = x .entry })) l l′ _ (rw (own, f) refl)
+        (d ∙ server-raised h s a b (record { view = x .view; faulty = true; keys = x .keys; entry = x .entry }) (x .keys .0) (λ t. rw (own, f) (omega arith)))
 
   -- ---- an answer
 
@@ -113,12 +167,12 @@ module _ {l : List ℕ} (h : Legible l) where
     unfolding guard
     reply-no f = refuses _ 10 l _ refl (rw (room-no h (omega arith)) refl)
 
-    pub reply-done : (l′ : List ℕ) → u < 1023 → l′ ≡ putSent (putServer l s y) (u + 1) (answer s n x) → Does (StepDone 0) l l′ (answers (some x) w s n y)
+    pub reply-done : (l′ : List ℕ) → serverAt l s .faulty ≡ false → y .faulty ≡ false → u < 1023 → l′ ≡ putSent (putServer l s y) (u + 1) (answer s n x) → Does (StepDone 0) l l′ (answers (some x) w s n y)
     unfolding guard
-    reply-done l′ f d =
+    reply-done l′ c o f d =
         let k = kept-used w s y u (q ∙ used-is h) in
         does 0 (send (withServer w s y) (answer s n x)) l l′ _ (rw (room-yes h (omega arith)) refl)
-        (d ∙ with-sent (with-server (image-of h) s a b y) (u + 1) (answer s n x) k (omega (arith, k)) .is)
+        (d ∙ with-sent (server-kept (image-of h) s a b y (λ t. rw (← server-is h s a b, c, o) refl)) (u + 1) (answer s n x) k (omega (arith, k)) .is)
 
   -- ---- deliver
 
@@ -144,9 +198,39 @@ module _ {l : List ℕ} (h : Legible l) where
       rule-done : serve (server w s) (message w n) (member w (message w n .view .0) s) ≡ done (accepting x m)
       rule-done = rule ∙ serve-done x m t (sym f ∙ d)
 
-      pub deliver-kept : (y : Server) → y ≡ entering x m → (l′ : List ℕ) → m .kind ≡ START → l′ ≡ putServer l s y → Does (StepDone 0) l l′ (deliver w s n)
-      unfolding deliver guard
-      deliver-kept y g l′ i j = does 0 (withServer w s y) l l′ _ (rw (e, rule-done, eq-eqb _ _ i, g) refl) (j ∙ with-server (image-of h) s a b y .is)
+      serve-is : serve x m t ≡ done (accepting x m)
+      serve-is = sym (serve-in x m t (rw is-message (view-low n e))) ∙ serve-done x m t (sym f ∙ d)
+
+      is-server : server w s ≡ x
+      is-server = sym (q ∙ server-is h s a b)
+
+      -- START: a faulty server gains the key, a correct one stays correct
+      module _ (y : Server) (g : y ≡ entering x m) where
+        same-faulty : y .faulty ≡ x .faulty
+        same-faulty = ap (λ (v : Server). v .faulty) g ∙ entering-faulty x m
+
+        start-image : m .kind ≡ START → (c : Bool) → x .faulty ≡ c → putServer (gained l y (m .view .0)) s y ≡ encode (withServer w s y)
+        unfolding gathering
+        start-image i true c =
+            let low : m .view .0 ≤ 32 = rw is-message (view-low n e) in
+            let lacks = started-lacks x m t (accepting x m) serve-is i c in
+            let keys = ap (λ (v : Server). v .keys .0) (g ∙ gathers x m low c) in
+            ap (λ (k : List ℕ). putServer k s y) (gained-key l y (m .view .0) (same-faulty ∙ c))
+            ∙ (server-raised h s a b y (bitIn (m .view .0))
+            (λ u. rw (same-faulty ∙ c, is-server, c, keys) (key-gained (x .keys .0) (m .view .0) u low lacks)))
+        start-image i false c =
+            ap (λ (k : List ℕ). putServer k s y) (gained-none l y (m .view .0) (same-faulty ∙ c))
+            ∙ server-kept (image-of h) s a b y (λ u. rw (same-faulty ∙ c, is-server, c) refl) .is
+
+        pub deliver-kept : (l′ : List ℕ) → m .kind ≡ START → l′ ≡ putServer (gained l y (m .view .0)) s y → Does (StepDone 0) l l′ (deliver w s n)
+        unfolding deliver guard
+        deliver-kept l′ i j = does 0 (withServer w s y) l l′ _ (rw (e, rule-done, eq-eqb _ _ i, g) refl) (j ∙ start-image i (x .faulty) refl)
+
+      -- kinds 1 to 3: it is correct and stays so
+      pub deliver-correct : (r : Replied) → (m .kind ≡ START → ⊥) → asReply r ≡ replying x m → (serverAt l s .faulty ≡ false) × (r .server .faulty ≡ false)
+      deliver-correct r i g =
+          let c = served-correct x m t (accepting x m) serve-is i in
+          (ap (λ (v : Server). v .faulty) (sym q) ∙ c, ap (λ (v : Reply). v .server .faulty) g ∙ replying-faulty x m ∙ c)
 
       pub deliver-answers : (r : Replied) → (m .kind ≡ START → ⊥) → asReply r ≡ replying x m → deliver w s n ≡ answers (some (r .shown)) w s n (r .server)
       unfolding deliver guard

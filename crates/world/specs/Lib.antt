@@ -1,5 +1,6 @@
 pub mod Images
 pub mod Stored
+pub mod Holders
 pub mod Begins
 pub mod Delivers
 pub mod Puts

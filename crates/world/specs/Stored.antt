@@ -6,19 +6,18 @@ use mathlib.Core.Path.{_≡_, sym, ap, subst, _∙_}
 use mathlib.Core.List.{List}
 use lib.ListN.{length}
 use borrow.Author.Tests.{lt-ltb, le-ltb}
-use Rattle.protocol.specs.declared.Server.{Server}
 use Rattle.protocol.specs.declared.Client.{Client}
 use Rattle.protocol.specs.declared.View.{View}
 use Rattle.protocol.specs.declared.Message.{Message}
 use Rattle.protocol.specs.declared.Administrator.{Administrator}
 use Rattle.protocol.specs.Tools.{Result, refused, done}
 use Rattle.protocol.specs.Sizes.{clients, servers, views, messages}
-use Rattle.protocol.specs.Worlds.{World, view, server, client, message, room, withServer, withClient, withView, withMessage, withAdministrator, send}
+use Rattle.protocol.specs.Worlds.{World, view, server, client, message, room, withClient, withView, withMessage, withAdministrator, send}
 use Rattle.protocol.specs.Steps.{After}
 use Rattle.codec.specs.Layout.{imageSize}
-use Rattle.codec.specs.Places.{usedAt, putUsed, administratorAt, putAdministrator, viewAt, putView, serverAt, putServer, clientAt, putClient, messageAt, putMessage}
+use Rattle.codec.specs.Places.{usedAt, putUsed, administratorAt, putAdministrator, viewAt, putView, serverAt, clientAt, putClient, messageAt, putMessage}
 use Rattle.codec.specs.Images.{encode, decode}
-use Rattle.codec.specs.Laws.{Full, length-encode, put-view, put-server, put-client, put-message, put-administrator, put-send, full-view, full-server, full-client, full-message, full-administrator, full-send, used-decode, administrator-decode, decode-full, view-decode, server-decode, client-decode, message-decode}
+use Rattle.codec.specs.Laws.{Full, length-encode, put-view, put-client, put-message, put-administrator, put-send, full-view, full-client, full-message, full-administrator, full-send, used-decode, administrator-decode, decode-full, view-decode, server-decode, client-decode, message-decode}
 use Rattle.protocol.specs.Laws.Formed.{Formed, formed}
 use Rattle.world.specs.declared.Stepped.{Stepped}
 use Rattle.world.specs.declared.Stepped.the-variants.{StepDone}
@@ -77,9 +76,6 @@ pub image-size : {l : List ℕ} {w : World} → Image l w → length l ≡ image
 image-size {l} {w} h = ap length (h .is) ∙ length-encode w (h .full)
 
 module _ {l : List ℕ} {w : World} (h : Image l w) where
-  pub with-server : (s : ℕ) → 1 ≤ s → s ≤ servers → (b : Server) → Image (putServer l s b) (withServer w s b)
-  with-server s a c b = record { is = ap (λ (k : List ℕ). putServer k s b) (h .is) ∙ put-server w (h .full) s a c b; full = full-server w (h .full) s b }
-
   pub with-client : (c : ℕ) → 1 ≤ c → c ≤ clients → (b : Client) → Image (putClient l c b) (withClient w c b)
   with-client c a d b = record { is = ap (λ (k : List ℕ). putClient k c b) (h .is) ∙ put-client w (h .full) c a d b; full = full-client w (h .full) c b }
 

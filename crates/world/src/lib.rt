@@ -1,5 +1,6 @@
 // The steps of a world on its lent image, over the promises of the machines' rules.
 pub mod clients;
+mod holders;
 pub mod mail;
 pub mod servers;
 pub mod step;

@@ -1,9 +1,11 @@
 // A message reaches a server, a server turns faulty, a faulty server answers.
+ghost use mathlib.Core.Bool.{false};
 ghost use mathlib.Core.Path.{_≡_};
 ghost use Prim.Native.Nat.{_≤_};
 ghost use Rattle.protocol.specs.Sizes.{servers, views, messages};
 ghost use Rattle.protocol.specs.Worlds.{member as memberOf, message};
 ghost use Rattle.protocol.specs.Steps.{deliver as deliverOn, answers as answersOn, fault as faultOn, source? as isSource, lie as lieOn};
+ghost use Rattle.codec.specs.Places.{serverAt};
 ghost use Rattle.codec.specs.Images.{decode};
 ghost use mathlib.Core.Option.{some};
 ghost use lib.Dec.{eqb};
@@ -11,6 +13,8 @@ ghost use Rattle.protocol.specs.Tools.{if};
 ghost use Rattle.protocol.specs.Entries.{empty};
 ghost use Rattle.world.specs.Images.{Legible, Does};
 use super::Stepped;
+use super::holders::keep_started;
+use super::holders::raise;
 use super::mail::answer;
 use super::mail::present;
 use super::mail::send;
@@ -50,9 +54,9 @@ fn is_member(image: &[u8], t: ViewNumber, s: ServerNumber) -> bool
     has_server(members, s)
 }
 
-// The server's record is kept and its answer sent: 10 where no number is left.
+// A correct server's record is kept and its answer sent: 10 where no number is left.
 fn reply(image: &mut [u8], s: ServerNumber, n: MessageNumber, b: Server, x: Shown) -> Stepped
-    requires { ⌜ Legible (now image) × (1 ≤ s .0) × (s .0 ≤ servers) ⌝ }
+    requires { ⌜ Legible (now image) × (1 ≤ s .0) × (s .0 ≤ servers) × (serverAt (now image) (s .0) .faulty ≡ false) × (b .faulty ≡ false) ⌝ }
     ensures { λ r. ⌜ Does r (now (image .entry)) (now (image .exit)) (answersOn (some x) (decode (now (image .entry))) (s .0) (n .0) b) ⌝ }
 {
     let used = load_used(image);
@@ -84,7 +88,7 @@ pub fn deliver(image: &mut [u8], s: ServerNumber, n: MessageNumber) -> Stepped
     }
     if m.kind == START {
         let b = entering(a, m);
-        store_server(image, s, b);
+        keep_started(image, s, b, t);
         return Stepped::StepDone(0);
     }
     let replied = replying(a, m);
@@ -93,7 +97,7 @@ pub fn deliver(image: &mut [u8], s: ServerNumber, n: MessageNumber) -> Stepped
     reply(image, s, n, b, shown)
 }
 
-// "Fault: 6, faulty already."
+// "Fault: 6, faulty already." It counts against every view whose key it holds.
 pub fn fault(image: &mut [u8], s: ServerNumber) -> Stepped
     requires { ⌜ Legible (now image) × (1 ≤ s .0) × (s .0 ≤ servers) ⌝ }
     ensures { λ r. ⌜ Does r (now (image .entry)) (now (image .exit)) (faultOn (decode (now (image .entry))) (s .0)) ⌝ }
@@ -111,6 +115,7 @@ pub fn fault(image: &mut [u8], s: ServerNumber) -> Stepped
         keys: keys,
         entry: entry,
     };
+    raise(image, keys);
     store_server(image, s, b);
     Stepped::StepDone(0)
 }

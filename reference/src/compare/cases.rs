@@ -7,7 +7,7 @@ use crate::generate::answers::list;
 use crate::generate::calls::{administrator_call, client_call, server_call, spoil_call};
 use crate::generate::journals::journal;
 use crate::generate::logs::{kept, log};
-use crate::generate::profile::{Profile, PROFILES};
+use crate::generate::profile::{Profile, LATECOMERS, PROFILES, WRECK};
 use crate::generate::specimen::specimen;
 use crate::generate::spoils::{change_byte, spoiled};
 use crate::generate::steps::{aimed_start, aimed_step, aimed_step_of, odd_step};
@@ -16,7 +16,8 @@ use crate::generate::worlds::world;
 use crate::history::operations::run;
 use crate::journal::Journal;
 use crate::judge::{bytes, log_of, LINES, LINE_SIZE, PLACE_SIZE};
-use crate::layout::{ENTRY_SIZE, IMAGE_SIZE, STEP_SIZE};
+use crate::layout::{ENTRY_SIZE, HOLDERS_AT, IMAGE_SIZE, STEP_SIZE, VIEWS};
+use crate::operations::FIRST_SIZE;
 use crate::readable::Clause;
 use crate::record::{step_kind, Step};
 use crate::rules::Sound;
@@ -41,6 +42,7 @@ pub fn run_all(comparison: &mut Comparison, steps: usize, journals: usize, seed:
     every_clause(comparison, &mut draws);
     whole_journals(comparison, &mut draws, journals);
     loads(comparison, &mut draws);
+    broken_premises(comparison, &mut draws, journals);
     logs(comparison, &mut draws, steps / 4);
     lists(comparison, &mut draws, steps);
     let before = comparison.steps;
@@ -334,6 +336,7 @@ fn one_journal(comparison: &mut Comparison, draws: &mut Draws, profile: &Profile
     let (parts, _) = replay_past_refusals(comparison, &part, &bytes[cut..]);
     comparison.same_end(&parts, &whole, "a journal in two parts");
     resumed(comparison, draws, &fresh, &bytes);
+    watched(comparison, draws, &fresh, &bytes);
     let short = draws.below(bytes.len() + 1);
     comparison.replay(&fresh, &bytes[..short]);
     if draws.chance(20) {
@@ -341,6 +344,42 @@ fn one_journal(comparison: &mut Comparison, draws: &mut Draws, profile: &Profile
         let mut image = *image_of(&specimen());
         change_byte(&mut image, specimen().header.used, draws);
         comparison.replay(&image, &bytes);
+    }
+}
+
+/// A journal watched, whole and from somewhere on, where the premise may have
+/// failed already; buffers of other lengths.
+fn watched(comparison: &mut Comparison, draws: &mut Draws, fresh: &[u8], journal: &[u8]) {
+    comparison.watch(fresh, journal, FIRST_SIZE);
+    let cut = draws.below(journal.len() / STEP_SIZE + 1) * STEP_SIZE;
+    let (part, done) = comparison.replay(fresh, &journal[..cut]);
+    comparison.watch(&part, &journal[done * STEP_SIZE..], FIRST_SIZE);
+    comparison.watch(&part, &[], FIRST_SIZE);
+    match draws.below(8) {
+        0 => comparison.watch(fresh, journal, draws.below(2 * FIRST_SIZE)),
+        1 => comparison.watch(&fresh[1..], journal, FIRST_SIZE),
+        2 => {
+            let mut image = part;
+            image[HOLDERS_AT + draws.below(VIEWS)] ^= 1;
+            comparison.watch(&image, journal, FIRST_SIZE);
+        }
+        3 => comparison.watch(
+            fresh,
+            &journal[..draws.below(journal.len() + 1)],
+            FIRST_SIZE,
+        ),
+        _ => {}
+    }
+}
+
+/// Runs in which the premise breaks by a fault, or by a START that gives a key
+/// to one more faulty server.
+fn broken_premises(comparison: &mut Comparison, draws: &mut Draws, count: usize) {
+    for number in 0..count {
+        let profile = [&WRECK, &LATECOMERS][number % 2].with_odd(false);
+        let journal = journal::<Sound>(draws.word(), &profile);
+        let fresh = comparison.fresh(&[0; IMAGE_SIZE], journal.members, journal.f);
+        comparison.watch(&fresh, &journal.bytes(), FIRST_SIZE);
     }
 }
 

@@ -6,6 +6,7 @@ use crate::compare::counts::{Counts, Operation};
 use crate::compare::library::{pack, pack_result, Library};
 use crate::generate::answers::List;
 use crate::judge::{is_judged, judge, lines, PLACE_SIZE};
+use crate::layout::STEP_SIZE;
 use crate::load::load;
 use crate::operations;
 use crate::quorum::quorum_size;
@@ -60,6 +61,7 @@ pub struct Comparison<'a> {
     pub logs: u64,
     /// Lists of answers to choose from.
     pub lists: u64,
+    pub watched: u64,
     /// Journals shortened.
     pub shortened: u64,
     /// The first differences, in words.
@@ -78,6 +80,7 @@ impl<'a> Comparison<'a> {
             replays: 0,
             singles: 0,
             logs: 0,
+            watched: 0,
             shortened: 0,
             lists: 0,
             told: Vec::new(),
@@ -357,6 +360,35 @@ impl<'a> Comparison<'a> {
         self.compare_image(&before, &after, answer, &what, |library, entry| {
             theirs(library, lent.content(), entry)
         });
+        self.unwritten(&lent, &expected, &what);
+    }
+
+    /// A journal watched on this image, with a buffer of this length for the
+    /// step's number.
+    pub fn watch(&mut self, image: &[u8], journal: &[u8], length: usize) {
+        self.watched += 1;
+        let held = operations::premise(image) == Ok(true);
+        let mut after = image.to_vec();
+        let mut first = vec![MARK; length];
+        let ours = operations::watch(&mut after, journal, &mut first);
+        match ours.replayed.stopped {
+            None => self.counts.accept(Operation::Watch),
+            Some(reason) => self.counts.refuse(Operation::Watch, reason),
+        }
+        if held && ours.first != 0 {
+            let at = (ours.first as usize - 1) * STEP_SIZE;
+            self.counts.broke(Operation::of_step(&journal[at..]));
+        }
+        let what = format!("watch of {} bytes ({ours:?})", journal.len());
+        let answer = pack(ours.replayed.refusal(), ours.replayed.done as u64);
+        let mut lent = Lent::new(journal);
+        let expected = lent.bytes.clone();
+        let mut number = Lent::new(&vec![MARK; length]);
+        self.compare_image(image, &after, answer, &what, |library, image| {
+            library.watch(image, lent.content(), number.content())
+        });
+        let same = number.content() == first && number.margins_whole();
+        self.score(same, || format!("{what}: another step is named"));
         self.unwritten(&lent, &expected, &what);
     }
 

@@ -29,6 +29,7 @@ pub enum Operation {
     Load,
     Judge,
     Shorten,
+    Watch,
     Vouch,
     VouchThreshold,
     /// The rules of single machines.
@@ -37,7 +38,7 @@ pub enum Operation {
     Administrator,
 }
 
-pub const OPERATIONS: [Operation; 22] = [
+pub const OPERATIONS: [Operation; 23] = [
     Operation::Fresh,
     Operation::Quorum,
     Operation::Write,
@@ -55,6 +56,7 @@ pub const OPERATIONS: [Operation; 22] = [
     Operation::Load,
     Operation::Judge,
     Operation::Shorten,
+    Operation::Watch,
     Operation::Vouch,
     Operation::VouchThreshold,
     Operation::Server,
@@ -90,6 +92,8 @@ pub struct Counts {
     pub deeds: BTreeMap<Deed, u64>,
     /// Unreadable images that one clause alone refuses, by that clause.
     pub clauses: BTreeMap<Clause, u64>,
+    /// Steps after which the premise first did not hold, by what was asked.
+    pub broke: BTreeMap<Operation, u64>,
 }
 
 impl Counts {
@@ -103,6 +107,11 @@ impl Counts {
 
     pub fn did(&mut self, deed: Deed) {
         *self.deeds.entry(deed).or_default() += 1;
+    }
+
+    /// The premise held before this step and not after it.
+    pub fn broke(&mut self, operation: Operation) {
+        *self.broke.entry(operation).or_default() += 1;
     }
 
     /// An image was unreadable by these clauses.

@@ -37,6 +37,9 @@ pub trait Library {
         journal: &[u8],
         shorter: &mut [u8],
     ) -> u64;
+    /// A journal, and the first step after which the premise does not hold: as
+    /// a replay.
+    fn watch(&self, image: &mut [u8], journal: &[u8], first: &mut [u8]) -> u64;
     /// The first choice among unsigned entries: the refusal.
     fn vouch(&self, answers: &[u8], n: u32, b: u32, entry: &mut [u8]) -> u64;
     /// The second choice, with the largest permitted b: the refusal.
@@ -117,6 +120,11 @@ impl Library for Reference {
         shorter: &mut [u8],
     ) -> u64 {
         pack_result(shorten(image, members, f, journal, shorter).map(|steps| steps as u64))
+    }
+
+    fn watch(&self, image: &mut [u8], journal: &[u8], first: &mut [u8]) -> u64 {
+        let replayed = operations::watch(image, journal, first).replayed;
+        pack(replayed.refusal(), replayed.done as u64)
     }
 
     fn vouch(&self, answers: &[u8], n: u32, b: u32, entry: &mut [u8]) -> u64 {

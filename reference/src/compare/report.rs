@@ -14,6 +14,7 @@ pub fn report(comparison: &Comparison) -> String {
     refusals(comparison, &mut text);
     paths(comparison, &mut text);
     deeds(comparison, &mut text);
+    broken(comparison, &mut text);
     clauses(comparison, &mut text);
     for told in &comparison.told {
         line(&mut text, &format!("DIFFERS: {told}"));
@@ -29,13 +30,14 @@ pub fn report(comparison: &Comparison) -> String {
         &mut text,
         &format!(
             "{} single steps, {} journals ({} replays), {} calls of single machines, {} logs, {} lists of \
-             answers and {} shortened journals compared",
+             answers, {} watched and {} shortened journals compared",
             comparison.steps,
             comparison.journals,
             comparison.replays,
             comparison.singles,
             comparison.logs,
             comparison.lists,
+            comparison.watched,
             comparison.shortened,
         ),
     );
@@ -102,6 +104,17 @@ fn clauses(comparison: &Comparison, text: &mut String) {
     line(text, "Unreadable images that one clause alone refuses");
     for (clause, count) in &comparison.counts.clauses {
         line(text, &format!("{:40}{count:>8}", format!("{clause:?}")));
+    }
+    line(text, "");
+}
+
+fn broken(comparison: &Comparison, text: &mut String) {
+    line(
+        text,
+        "Watched journals in which the premise breaks, by the step",
+    );
+    for (operation, count) in &comparison.counts.broke {
+        line(text, &format!("{:40}{count:>8}", format!("{operation:?}")));
     }
     line(text, "");
 }

@@ -196,6 +196,29 @@ pub const RESTARTS: Profile = Profile {
     partings: 20,
 };
 
-pub const PROFILES: [&Profile; 9] = [
-    &STORM, &STILL, &WRECK, &GLIMPSE, &FULL, &WIDE, &TINY, &RUSH, &RESTARTS,
+/// Views that take in servers which turned faulty before: a START breaks the
+/// premise more often than a fault.
+pub const LATECOMERS: Profile = Profile {
+    name: "latecomers",
+    clients: 2,
+    servers: 16,
+    largest_view: 4,
+    steps: 250,
+    operations: usize::MAX,
+    faults: Faults::Beyond,
+    weights: [3, 30, 2, 40, 40, 4, 3, 12, 1, 0],
+    partings: 0,
+};
+
+pub const PROFILES: [&Profile; 10] = [
+    &STORM,
+    &STILL,
+    &WRECK,
+    &GLIMPSE,
+    &FULL,
+    &WIDE,
+    &TINY,
+    &RUSH,
+    &RESTARTS,
+    &LATECOMERS,
 ];

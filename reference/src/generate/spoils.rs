@@ -37,7 +37,7 @@ fn each<T: Copy>(values: &[T], put: impl Fn(&mut World, T)) -> Vec<World> {
 
 fn header(clause: Clause) -> Vec<World> {
     match clause {
-        Clause::Version => each(&[0, 1, 3, 258], |world, number| {
+        Clause::Version => each(&[0, 1, 2, 4, 259], |world, number| {
             world.header.version = number
         }),
         Clause::Used => each(&[1024, u16::MAX], use_every_number),
@@ -129,6 +129,11 @@ fn views(clause: Clause) -> Vec<World> {
                 world.views[view].members = members;
                 world.views[view].f = f;
             },
+        ),
+        // One too few, one too many, the pending view, beyond it, the last.
+        Clause::Holders => each(
+            &[(0, 0), (0, 2), (1, 0), (1, 255), (2, 1), (3, 1), (31, 1)],
+            |world, (view, count): (usize, u8)| world.holders[view] = count,
         ),
         Clause::ViewBeyond => each(
             &[(3, 1, 0), (3, 0, 1), (31, 1 << 31, 0), (31, 0, 255)],

@@ -6,6 +6,7 @@
 
 use crate::entry::Entry;
 use crate::layout::{CLIENTS, LAST_CLIENT, LAST_MESSAGE, LAST_SERVER, LAST_VIEW, SERVERS, VERSION};
+use crate::premise::faulty_holders;
 use crate::world::{
     bit, message_kind, operation_kind, phase, Client, Message, Server, View, World,
 };
@@ -29,6 +30,7 @@ pub fn world(draws: &mut Draws) -> World {
             ..draw_client(&world, draws, &entries, number)
         };
     }
+    world.holders = faulty_holders(&world);
     world
 }
 

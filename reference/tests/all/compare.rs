@@ -26,6 +26,8 @@ struct Changed {
     order: fn(u64, &mut [u8]),
     /// What becomes of the image and of the short journal, beside the answer.
     short: fn(u64, &mut [u8], &mut [u8]),
+    /// What becomes of the step that a watched replay names.
+    first: fn(u64, &mut [u8]),
     /// What becomes of the entry chosen, by the second choice or the first,
     /// beside the answer.
     entry: fn(bool, u64, &mut [u8]),
@@ -42,6 +44,7 @@ fn same() -> Changed {
         seed: |seed| seed,
         order: |_, _| {},
         short: |_, _, _| {},
+        first: |_, _| {},
         entry: |_, _, _| {},
     }
 }
@@ -127,6 +130,12 @@ impl Library for Changed {
     ) -> u64 {
         let answer = Reference.vouch_threshold(answers, n, b, largest, entry);
         (self.entry)(true, answer, entry);
+        answer
+    }
+
+    fn watch(&self, image: &mut [u8], journal: &[u8], first: &mut [u8]) -> u64 {
+        let answer = Reference.watch(image, journal, first);
+        (self.first)(answer, first);
         answer
     }
 
@@ -353,6 +362,27 @@ fn another_entry_chosen_fails() {
     ];
     for entry in others {
         assert!(!passes(&Changed { entry, ..same() }));
+    }
+}
+
+#[test]
+fn another_step_named_fails() {
+    let others: [fn(u64, &mut [u8]); 3] = [
+        |_, first| first.fill(0),
+        |_, first| {
+            if let [low, ..] = first {
+                *low = low.saturating_sub(1);
+            }
+        },
+        // Not beside a stop.
+        |answer, first| {
+            if answer % 256 > 2 {
+                first.fill(0);
+            }
+        },
+    ];
+    for first in others {
+        assert!(!passes(&Changed { first, ..same() }));
     }
 }
 

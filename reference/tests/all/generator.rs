@@ -297,6 +297,11 @@ fn every_path() -> BTreeSet<(Operation, Reason)> {
         (Operation::Replay, Reason::Unreadable),
         (Operation::Replay, Reason::UnknownKind),
         (Operation::Load, Reason::JournalLength),
+        (Operation::Watch, Reason::ImageLength),
+        (Operation::Watch, Reason::JournalLength),
+        (Operation::Watch, Reason::FirstLength),
+        (Operation::Watch, Reason::Unreadable),
+        (Operation::Watch, Reason::UnknownKind),
         (Operation::Shorten, Reason::ImageLength),
         (Operation::Shorten, Reason::JournalLength),
         (Operation::Shorten, Reason::TooManySteps),
@@ -386,13 +391,19 @@ fn the_cases_reach_every_refusal_by_every_path_and_every_close() {
         assert!(counts.refused.contains_key(&path), "never met: {path:?}");
     }
     // A replay may stop with whatever a step can meet.
-    let replays = [Operation::Replay, Operation::Resume];
+    let replays = [Operation::Replay, Operation::Resume, Operation::Watch];
     for path in counts.refused.keys() {
         let known = replays.contains(&path.0) || every_path().contains(path);
         assert!(known, "not thought of: {path:?}");
     }
     let deeds: BTreeSet<Deed> = counts.deeds.keys().copied().collect();
     assert_eq!(deeds, every_deed());
+    // The premise breaks by faults and by STARTs, and by nothing else.
+    let broke: Vec<_> = counts.broke.iter().collect();
+    assert!(
+        matches!(broke[..], [(Operation::Deliver, a), (Operation::Fault, b)] if *a >= LEAST && *b >= LEAST),
+        "{broke:?}"
+    );
     // Both choices, and each of their refusals, are met often.
     for path in list_paths() {
         assert!(counts.refused[&path] >= LEAST, "{path:?}");

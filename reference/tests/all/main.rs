@@ -17,6 +17,7 @@ mod shorten;
 mod single;
 mod traps;
 mod vouch;
+mod watch;
 
 use reference::codec::image_of;
 use reference::operations;

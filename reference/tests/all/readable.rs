@@ -7,6 +7,7 @@ use reference::generate::spoils::{change_byte, spoiled};
 use reference::generate::worlds::world;
 use reference::layout::IMAGE_SIZE;
 use reference::operations;
+use reference::premise::faulty_holders;
 use reference::readable::{broken, readable, Clause};
 use reference::record::Step;
 use reference::refusal::Reason;
@@ -235,7 +236,12 @@ fn chains_may_run_in_any_order() {
 
 #[test]
 fn keys_of_servers() {
-    let server = |server: Server| move |world: &mut World| *world.server_mut(9) = server;
+    let server = |server: Server| {
+        move |world: &mut World| {
+            *world.server_mut(9) = server;
+            world.holders = faulty_holders(world);
+        }
+    };
     let correct = Server::default();
     assert!(still(server(Server {
         view: 2,

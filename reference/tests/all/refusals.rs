@@ -5,6 +5,7 @@ use reference::entry::Entry;
 use reference::generate::specimen::specimen;
 use reference::layout::{IMAGE_SIZE, LAST_MESSAGE};
 use reference::operations;
+use reference::premise::faulty_holders;
 use reference::record::{Field, Step, FIELDS};
 use reference::refusal::Reason;
 use reference::script::Script;
@@ -400,6 +401,7 @@ fn start_to_correct_and_faulty_servers() {
         keys: 0,
         ..*world.server(1)
     };
+    world.holders = faulty_holders(&world);
     assert_eq!(
         refused(&world, Step::deliver(1, start)),
         Reason::ViewNotBelow

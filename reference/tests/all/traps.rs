@@ -316,6 +316,7 @@ fn trap_10_the_premise_counts_faulty_holders() {
     // A holder that is no member counts as well.
     let mut world = script.world.clone();
     world.server_mut(9).keys = bit(1);
+    world.holders[0] += 1;
     assert!(readable(&world) && !premise::<Sound>(&world));
     // The pending view has no holders, whatever its f.
     act(&mut script.world, Step::new_view(0b1, 0)).unwrap();
@@ -567,12 +568,12 @@ fn trap_21_bytes_of_the_fresh_world() {
     let mut image = [0xee; IMAGE_SIZE];
     operations::fresh(&mut image, 0x8000_0002, 0).unwrap();
     let mut expected = [0; IMAGE_SIZE];
-    expected[0] = 2; // version
+    expected[0] = 3; // version
     expected[4] = 1; // newest view
     expected[16] = 0x02; // members of view 1
     expected[19] = 0x80;
     for server in [2, 32] {
-        let at = 16 + 32 * 8 + (server - 1) * 20;
+        let at = 16 + 32 * 8 + 32 + (server - 1) * 20;
         expected[at] = 1; // view
         expected[at + 4] = 1; // key
     }

@@ -2,7 +2,7 @@ use mathlib.Core.Path.{ap, sym, _∙_}
 use borrow.Author.Tests.{not-true, not-false}
 use borrow.Author.Needs.{needs}
 use Rattle.protocol.specs.Tools.{pass}
-use Rattle.image.specs.Scan.{open-header, readable-scan, readable-size, scanned}
+use Rattle.image.specs.Scan.{open-header, servers-served, readable-scan, readable-size, scanned}
 use Rattle.protocol.specs.declared.Administrator.{Administrator}
 use Rattle.image.proofs.readable.readable.Statement.{statement}
 use Rattle.image.proofs.readable.readable.Tie as tie
@@ -64,11 +64,20 @@ chains-fit-requires c κs = open-header (c .before .before .before .before .befo
 returns-7 : tie.Need-returns-7
 unfolding scanned
 returns-7 c =
-    rw (readable-scan (c .before .before .before .before .before .before .before .before .before .before .before .before .before .before .before .args .image .now) (c .before .before .before .before .before .before .before .before .before .before .before .before .before .if1 .left) (λ k. c .before .before .before .before .before .before .before .before .before .before .before .before .before .before .shared-slice-known .given k .fits))
-    (pass (sym (c .before .before .before .before .before .before .before .before .before .before .before .before .header-ok .ensures) ∙ not-false _ (c .before .before .before .before .before .before .before .before .before .before .before .if2 .left)) (pass (sym (c .before .before .before .before .before .before .before .before .views-ok .ensures) ∙ not-false _ (c .before .before .before .before .before .before .before .if3 .left)) (pass (sym (c .before .before .before .before .before .before .servers-ok .ensures) ∙ not-false _ (c .before .before .before .before .before .if4 .left)) (pass (sym (c .before .before .before .before .clients-ok .ensures) ∙ not-false _ (c .before .before .before .if5 .left)) (pass (sym (c .before .before .messages-ok .ensures) ∙ not-false _ (c .before .if6 .left)) (c .chains-fit .ensures))))))
+    rw (readable-scan (c .before .before .before .before .before .before .before .before .before .before .before .before .before .before .before .before .args .image .now) (c .before .before .before .before .before .before .before .before .before .before .before .before .before .before .if1 .left) (λ k. c .before .before .before .before .before .before .before .before .before .before .before .before .before .before .before .shared-slice-known .given k .fits))
+    (pass (sym (c .before .before .before .before .before .before .before .before .before .before .before .before .before .header-ok .ensures) ∙ not-false _ (c .before .before .before .before .before .before .before .before .before .before .before .before .if2 .left)) (pass (sym (c .before .before .before .before .before .before .before .before .before .views-ok .ensures) ∙ not-false _ (c .before .before .before .before .before .before .before .before .if3 .left)) (pass (sym (c .before .before .before .before .before .before .before .servers-ok .ensures) ∙ not-false _ (c .before .before .before .before .before .before .if4 .left)) (pass (sym (c .before .before .before .before .before .clients-ok .ensures) ∙ not-false _ (c .before .before .before .before .if5 .left)) (pass (sym (c .before .before .before .messages-ok .ensures) ∙ not-false _ (c .before .before .if6 .left)) (rw (sym (c .before .chains-fit .ensures) ∙ not-true _ (c .if7 .taken))))))))
+
+holders-ok-requires : tie.Need-holders-ok-requires
+holders-ok-requires c κs = (c .before .before .before .before .before .before .before .before .before .before .before .before .before .before .if1 .left, servers-served (c .before .before .before .before .before .before .before .before .before .before .before .before .before .before .before .before .args .image .now) (sym (c .before .before .before .before .before .before .before .servers-ok .ensures) ∙ not-false _ (c .before .before .before .before .before .before .if4 .left)), ap (λ (a : Administrator). a .newest .0) (c .before .before .before .before .before .before .before .before .before .before .before .load-administrator .ensures))
+
+returns-8 : tie.Need-returns-8
+unfolding scanned
+returns-8 c =
+    rw (readable-scan (c .before .before .before .before .before .before .before .before .before .before .before .before .before .before .before .before .before .args .image .now) (c .before .before .before .before .before .before .before .before .before .before .before .before .before .before .before .if1 .left) (λ k. c .before .before .before .before .before .before .before .before .before .before .before .before .before .before .before .before .shared-slice-known .given k .fits))
+    (pass (sym (c .before .before .before .before .before .before .before .before .before .before .before .before .before .before .header-ok .ensures) ∙ not-false _ (c .before .before .before .before .before .before .before .before .before .before .before .before .before .if2 .left)) (pass (sym (c .before .before .before .before .before .before .before .before .before .before .views-ok .ensures) ∙ not-false _ (c .before .before .before .before .before .before .before .before .before .if3 .left)) (pass (sym (c .before .before .before .before .before .before .before .before .servers-ok .ensures) ∙ not-false _ (c .before .before .before .before .before .before .before .if4 .left)) (pass (sym (c .before .before .before .before .before .before .clients-ok .ensures) ∙ not-false _ (c .before .before .before .before .before .if5 .left)) (pass (sym (c .before .before .before .before .messages-ok .ensures) ∙ not-false _ (c .before .before .before .if6 .left)) (pass (sym (c .before .before .chains-fit .ensures) ∙ not-false _ (c .before .if7 .left)) (c .holders-ok .ensures)))))))
 
 pub readable-spec : {M : Type 1} → statement M
 readable-spec =
     tie.close
     (tie.spec returns header-ok-requires returns-2 load-administrator-requires views-ok-requires returns-3 servers-ok-requires returns-4
-    clients-ok-requires returns-5 messages-ok-requires returns-6 chains-fit-requires returns-7)
+    clients-ok-requires returns-5 messages-ok-requires returns-6 chains-fit-requires returns-7 holders-ok-requires returns-8)

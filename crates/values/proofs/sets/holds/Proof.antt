@@ -11,7 +11,7 @@ unfolding holds
 returns c = simp (c .if1 .taken)
 
 returns-2 : tie.Need-returns-2
-returns-2 c = sym (holds-beyond (c .before .before .args .bits) (c .before .before .args .k) (search needs) (c .if2 .taken))
+returns-2 c = sym (holds-beyond 32 (c .before .before .args .bits) (c .before .before .args .k) (search needs) (c .if2 .taken))
 
 sub-result : tie.Need-sub-result
 sub-result c = search needs

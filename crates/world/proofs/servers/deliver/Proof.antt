@@ -1,7 +1,7 @@
 use mathlib.Core.Path.{sym, _∙_}
 use borrow.Author.Tests.{not-true, not-false}
 use Rattle.world.specs.Stored.{by}
-use Rattle.world.specs.Delivers.{sent-low, tag-low, absent, deliver-no, deliver-kept, deliver-answers}
+use Rattle.world.specs.Delivers.{sent-low, tag-low, absent, deliver-no, deliver-kept, deliver-correct, deliver-answers}
 use borrow.Author.Needs.{needs}
 use Rattle.world.proofs.servers.deliver.Statement.{statement}
 use Rattle.world.proofs.servers.deliver.Tie as tie
@@ -45,8 +45,8 @@ returns-2 c =
 entering-requires : tie.Need-entering-requires
 entering-requires c κs = search needs
 
-store-server-requires : tie.Need-store-server-requires
-store-server-requires c κs = let d = c .before .before .before .before .before .before .before .before .before .before .before .before .before .before .before .before .before in (d .pre .0 .size, d .pre .1, d .pre .2)
+keep-started-requires : tie.Need-keep-started-requires
+keep-started-requires c κs = let d = c .before .before .before .before .before .before .before .before .before .before .before .before .before .before .before .before .before in (d .pre .0, d .pre .1, d .pre .2)
 
 same-length-3 : tie.Need-same-length-3
 same-length-3 c = search needs
@@ -61,13 +61,24 @@ returns-3 c =
     let e = i .before in
     let d = e .before .before .before in
     deliver-kept (d .pre .0) (d .args .s .0) (d .args .n .0) (d .pre .1) (d .pre .2) (sym (e .present .ensures) ∙ not-false (e .present .result) (i .if1 .left)) _ _ _ _
-    (y .load-message .ensures) (x .load-server .ensures) (m .is-member .ensures) (r .refuses .ensures) (c .before .before .before .before .before .before .before .if2 .left) _ (c .before .before .before .before .entering .ensures) _ (c .before .before .before .before .before .if3 .taken) (c .before .before .store-server .ensures)
+    (y .load-message .ensures) (x .load-server .ensures) (m .is-member .ensures) (r .refuses .ensures) (c .before .before .before .before .before .before .before .if2 .left) _ (c .before .before .before .before .entering .ensures) _ (c .before .before .before .before .before .if3 .taken) (c .before .before .keep-started .ensures)
 
 replying-requires : tie.Need-replying-requires
 replying-requires c κs = search needs
 
 reply-requires : tie.Need-reply-requires
-reply-requires c κs = let d = c .before .before .before .before .before .before .before .before .before .before .before .before .before .before .before .before .before .before .before in (d .pre .0, d .pre .1, d .pre .2)
+reply-requires c κs =
+    let r = c .before .before .before .before .before .before .before in
+    let m = r .before in
+    let x = m .before .before .before in
+    let y = x .before .before in
+    let i = y .before .before in
+    let e = i .before in
+    let d = e .before .before .before in
+    let f = deliver-correct (d .pre .0) (d .args .s .0) (d .args .n .0) (d .pre .1) (d .pre .2) (sym (e .present .ensures) ∙ not-false (e .present .result) (i .if1 .left)) _ _ _ _
+    (y .load-message .ensures) (x .load-server .ensures) (m .is-member .ensures) (r .refuses .ensures) (c .before .before .before .before .before .before .if2 .left) _
+    (c .before .before .before .before .if3 .left) (c .before .before .before .replying .ensures) in
+    (d .pre .0, d .pre .1, d .pre .2, f .0, f .1)
 
 same-length-4 : tie.Need-same-length-4
 same-length-4 c = search needs
@@ -87,4 +98,4 @@ returns-4 c =
     (c .before .before .reply .ensures)
 
 pub deliver-spec : {M : Type 1} → statement M
-deliver-spec = tie.close (tie.spec present-requires same-length returns load-message-requires load-server-requires is-member-requires refuses-requires same-length-2 returns-2 entering-requires store-server-requires same-length-3 returns-3 replying-requires reply-requires same-length-4 returns-4)
+deliver-spec = tie.close (tie.spec present-requires same-length returns load-message-requires load-server-requires is-member-requires refuses-requires same-length-2 returns-2 entering-requires keep-started-requires same-length-3 returns-3 replying-requires reply-requires same-length-4 returns-4)

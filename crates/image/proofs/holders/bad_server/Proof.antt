@@ -4,8 +4,8 @@ use borrow.Author.Needs.{needs}
 use Rattle.protocol.specs.Worlds.{bad}
 use Rattle.codec.specs.Laws.{server-decode}
 use Rattle.protocol.specs.Tools.{bit}
-use Rattle.image.proofs.premise.bad_server.Statement.{statement}
-use Rattle.image.proofs.premise.bad_server.Tie as tie
+use Rattle.image.proofs.holders.bad_server.Statement.{statement}
+use Rattle.image.proofs.holders.bad_server.Tie as tie
 
 load-server-requires : tie.Need-load-server-requires
 load-server-requires c κs = search needs

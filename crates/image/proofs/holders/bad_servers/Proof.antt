@@ -8,8 +8,8 @@ use Rattle.codec.specs.Images.{decode}
 use Rattle.protocol.specs.Tools.{countTo}
 use Rattle.protocol.specs.Laws.Tests.{count-le}
 use Rattle.image.specs.Loops.{count-start, count-more}
-use Rattle.image.proofs.premise.bad_servers.Statement.{statement}
-use Rattle.image.proofs.premise.bad_servers.Tie as tie
+use Rattle.image.proofs.holders.bad_servers.Statement.{statement}
+use Rattle.image.proofs.holders.bad_servers.Tie as tie
 
 abbrev Inv-loop : tie.InvT-loop
 Inv-loop image t n₀ k₀ n k = (k ≤ servers) × (n ≡ countTo (bad (decode image) (t .0)) k)
