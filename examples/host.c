@@ -49,7 +49,7 @@ static int served(uint16_t request)
 
 int main(void)
 {
-    if (zw_fresh(image, sizeof image, 1, 0) != ZW_DONE)
+    if (zw_fresh(image, sizeof image, 1, 0, 0) != ZW_DONE)
         return 1;
     if (!step(WRITE, 1, 0, 7) || !served(1) || !served(3))
         return 1;

@@ -45,7 +45,7 @@ enum zw_refusal {
     ZW_NO_MESSAGE = 5,  /* no such message, or of the wrong kind */
     ZW_FAULTY = 6,      /* the server is faulty, or is not */
     ZW_NO_RULE = 7,     /* the rule does not apply */
-    ZW_SIZE = 8,        /* size rule broken, or no view is left */
+    ZW_SIZE = 8,        /* size rule broken, a read size outside its bounds, or no view is left */
     ZW_NO_KEY = 9,      /* the server lacks that key */
     ZW_FULL = 10,       /* all message numbers are used */
     ZW_COUNT = 11,      /* the write would need too large a count */
@@ -59,12 +59,17 @@ enum zw_refusal {
 static inline unsigned zw_refusal_of(uint64_t answer) { return (unsigned)(answer & 255); }
 static inline uint64_t zw_result_of(uint64_t answer) { return answer >> 8; }
 
-/* Makes the fresh world of these members (bit s-1 is server s) and f.
- * Result 0. Refusals 1, 8. */
-uint64_t zw_fresh(uint8_t *image, size_t n, uint32_t members, uint8_t f);
+/* Makes the fresh world of these members (bit s-1 is server s), f and read size
+ * r: 0 for a quorum, or at least 2f+1 and twice r at most n+f+1. Result 0.
+ * Refusals 1, 8. */
+uint64_t zw_fresh(uint8_t *image, size_t n, uint32_t members, uint8_t f, uint8_t r);
 
-/* The quorum size of n servers with threshold f. Refusal 8. */
-uint64_t zw_quorum(uint32_t n, uint32_t f);
+/* How many of n servers with threshold f and read size r close READ, and how
+ * many WRITE and END. Result: the first + 256 * the second. Refusal 8. */
+uint64_t zw_quorum(uint32_t n, uint32_t f, uint32_t r);
+
+static inline unsigned zw_read_size_of(uint64_t answer) { return (unsigned)(answer >> 8 & 255); }
+static inline unsigned zw_write_size_of(uint64_t answer) { return (unsigned)(answer >> 16); }
 
 /* One step. Result: the number of the client whose operation it completed, or
  * 0; the operation's entry is in that client's record. Refusals 1 to 12. */
@@ -105,13 +110,13 @@ uint64_t zw_load(uint8_t *journal, size_t n, uint32_t seed, uint32_t steps);
  * too); 13, no order exists. A refusal leaves `order` as it was. */
 uint64_t zw_judge(const uint8_t *log, size_t n, uint8_t *order, size_t m);
 
-/* The short journal behind a refusal, from the fresh world of these members
- * and f: its replay stops with the same refusal number, and no longer does when
+/* The short journal behind a refusal, from the fresh world of these members,
+ * f and r: its replay stops with the same refusal number, and no longer does when
  * any single step is dropped. `shorter` has as many bytes as the journal (k = m),
  * at most 512 steps; it gets the short journal, zero after it. Result: the
  * number of its steps. When done, and after 15, the image holds the fresh world;
  * beside any other refusal no lent byte is changed. Refusals 1, 8, 15. */
-uint64_t zw_shorten(uint8_t *image, size_t n, uint32_t members, uint8_t f,
+uint64_t zw_shorten(uint8_t *image, size_t n, uint32_t members, uint8_t f, uint8_t r,
                     const uint8_t *journal, size_t m, uint8_t *shorter, size_t k);
 
 /* Entries without a signature: chosen by how many of n servers show them, at
@@ -140,10 +145,11 @@ uint64_t zw_vouch_threshold(const uint8_t *answers, size_t m, uint32_t n, uint32
 uint64_t zw_server(uint8_t *server, size_t n, const uint8_t *call, size_t m);
 
 /* A client: it begins a write or a read (rules 1, 2), its phase closes with an
- * entry (rule 4; a read whose answers all carry it, the call's last byte being 1,
- * is complete and sends nothing), or it gives its operation up (rule 8, all else
- * of the call zero; 12, it is idle). Result 1 if its operation is complete, else
- * 0, as for one that is given up. */
+ * entry (rule 4; a read whose answers all carry it, in a view whose read size is
+ * not below its write size, the call's last byte being 1, is complete and sends
+ * nothing), or it gives its operation up (rule 8, all else of the call zero; 12,
+ * it is idle). Result 1 if its operation is complete, else 0, as for one that is
+ * given up. */
 uint64_t zw_client(uint8_t *client, size_t n, const uint8_t *call, size_t m);
 
 /* The administrator: it calls a new view, or END closes. Result 0. */

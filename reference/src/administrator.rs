@@ -10,9 +10,7 @@ pub fn call(header: &Header, pending: &View, end: u16) -> Result<Header, Reason>
     if header.ending != 0 {
         return Err(Reason::EndingAlready);
     }
-    if !pending.keeps_size_rule() {
-        return Err(Reason::SizeRule);
-    }
+    pending.size_rule()?;
     if header.newest >= LAST_VIEW {
         return Err(Reason::LastView);
     }

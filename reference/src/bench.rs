@@ -55,7 +55,8 @@ fn full_journals(profile: &Profile, count: usize) -> Vec<Full> {
 fn full_journal(seed: u64, profile: &Profile) -> Option<Full> {
     let drawn = journal::<Sound>(seed, profile);
     let mut image = vec![0; IMAGE_SIZE];
-    fresh(&mut image, drawn.members, drawn.f).expect("a journal begins with a fresh world");
+    fresh(&mut image, drawn.members, drawn.f, drawn.r)
+        .expect("a journal begins with a fresh world");
     let full = Full {
         fresh: image.clone(),
         journal: drawn.bytes(),
@@ -206,6 +207,7 @@ fn shortenings(side: &dyn Library, journal: &Journal) -> Spent {
         black_box(&mut image),
         journal.members,
         journal.f,
+        journal.r,
         black_box(&bytes),
         &mut buffer,
     );
@@ -330,7 +332,7 @@ fn fresh_worlds(side: &dyn Library) -> Spent {
     let begin = Instant::now();
     for number in 0..CALLS {
         let members = black_box(0xffff_ffff >> (number % 16));
-        let answer = side.fresh(black_box(&mut image), members, black_box(1));
+        let answer = side.fresh(black_box(&mut image), members, black_box(1), 0);
         assert_eq!(answer, 0, "the world is accepted");
     }
     (begin.elapsed(), CALLS)

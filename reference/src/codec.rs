@@ -59,18 +59,19 @@ impl Record<HEADER_SIZE> for Header {
 
 impl Record<VIEW_SIZE> for View {
     fn load(bytes: &[u8; VIEW_SIZE]) -> View {
-        let [m0, m1, m2, m3, f, spare @ ..] = *bytes;
+        let [m0, m1, m2, m3, f, r, spare @ ..] = *bytes;
         View {
             members: u32::from_le_bytes([m0, m1, m2, m3]),
             f,
+            r,
             spare,
         }
     }
 
     fn bytes(&self) -> [u8; VIEW_SIZE] {
         let [m0, m1, m2, m3] = self.members.to_le_bytes();
-        let [s0, s1, s2] = self.spare;
-        [m0, m1, m2, m3, self.f, s0, s1, s2]
+        let [s0, s1] = self.spare;
+        [m0, m1, m2, m3, self.f, self.r, s0, s1]
     }
 }
 

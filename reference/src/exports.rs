@@ -6,8 +6,8 @@
 use crate::compare::library::Library;
 
 extern "C" {
-    fn zw_fresh(image: *mut u8, n: usize, members: u32, f: u8) -> u64;
-    fn zw_quorum(n: u32, f: u32) -> u64;
+    fn zw_fresh(image: *mut u8, n: usize, members: u32, f: u8, r: u8) -> u64;
+    fn zw_quorum(n: u32, f: u32, r: u32) -> u64;
     fn zw_step(image: *mut u8, n: usize, step: *const u8, m: usize) -> u64;
     fn zw_premise(image: *const u8, n: usize) -> u64;
     fn zw_replay(image: *mut u8, n: usize, journal: *const u8, m: usize) -> u64;
@@ -19,6 +19,7 @@ extern "C" {
         n: usize,
         members: u32,
         f: u8,
+        r: u8,
         journal: *const u8,
         m: usize,
         shorter: *mut u8,
@@ -59,14 +60,14 @@ fn with_two(function: WithTwo, lent: &mut [u8], read: &[u8]) -> u64 {
 pub struct Exports;
 
 impl Library for Exports {
-    fn fresh(&self, image: &mut [u8], members: u32, f: u8) -> u64 {
+    fn fresh(&self, image: &mut [u8], members: u32, f: u8, r: u8) -> u64 {
         // SAFETY: the pointer and length are those of a slice lent for writing.
-        unsafe { zw_fresh(image.as_mut_ptr(), image.len(), members, f) }
+        unsafe { zw_fresh(image.as_mut_ptr(), image.len(), members, f, r) }
     }
 
-    fn quorum(&self, n: u32, f: u32) -> u64 {
+    fn quorum(&self, n: u32, f: u32, r: u32) -> u64 {
         // SAFETY: the call takes numbers alone.
-        unsafe { zw_quorum(n, f) }
+        unsafe { zw_quorum(n, f, r) }
     }
 
     fn step(&self, image: &mut [u8], step: &[u8]) -> u64 {
@@ -103,6 +104,7 @@ impl Library for Exports {
         image: &mut [u8],
         members: u32,
         f: u8,
+        r: u8,
         journal: &[u8],
         shorter: &mut [u8],
     ) -> u64 {
@@ -113,6 +115,7 @@ impl Library for Exports {
                 image.len(),
                 members,
                 f,
+                r,
                 journal.as_ptr(),
                 journal.len(),
                 shorter.as_mut_ptr(),

@@ -6,14 +6,21 @@ use crate::record::Step;
 pub struct Journal {
     pub members: u32,
     pub f: u8,
+    pub r: u8,
     pub steps: Vec<Vec<u8>>,
 }
 
 impl Journal {
     pub fn new(members: u32, f: u8) -> Journal {
+        Journal::sized(members, f, 0)
+    }
+
+    /// From a fresh world with a read size.
+    pub fn sized(members: u32, f: u8, r: u8) -> Journal {
         Journal {
             members,
             f,
+            r,
             steps: Vec::new(),
         }
     }
@@ -35,7 +42,7 @@ impl Journal {
 
     /// The first record and the steps, as the program takes them.
     pub fn input(&self) -> Vec<u8> {
-        let mut input = Step::fresh(self.members, self.f).bytes().to_vec();
+        let mut input = Step::fresh(self.members, self.f, self.r).bytes().to_vec();
         input.extend(self.bytes());
         input
     }

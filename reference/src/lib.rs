@@ -39,6 +39,7 @@ pub mod xorshift;
 // What came out, and the proved library beside it.
 pub mod bench;
 pub mod compare;
+pub mod costs;
 #[cfg(feature = "library")]
 pub mod exports;
 pub mod history;

@@ -2,7 +2,7 @@
 //! steps.
 
 use crate::layout::STEP_SIZE;
-use crate::record::{ranges, Field, Step, FIELDS};
+use crate::record::{ranges, step_kind, Field, Step, FIELDS};
 use crate::refusal::Reason;
 
 /// Marsaglia's 32-bit xorshift. A draw is the state after the shifts.
@@ -37,6 +37,10 @@ pub fn next_step(draws: &mut Xorshift) -> Step {
     };
     let ranges = ranges(step.kind).expect("kinds from 1 to 8 are known");
     for (field, range) in FIELDS.into_iter().zip(ranges) {
+        // A new view's read size is 0 without a draw.
+        if step.kind == step_kind::NEW_VIEW && field == Field::Who {
+            continue;
+        }
         if let Some((least, largest)) = *range {
             let size = match field {
                 Field::F => THRESHOLDS,

@@ -47,10 +47,10 @@ fn load(image: &Image) -> Result<World, Reason> {
     Ok(world)
 }
 
-/// Writes the fresh world with these members and f over the buffer.
-pub fn fresh(image: &mut [u8], members: u32, f: u8) -> Result<(), Reason> {
+/// Writes the fresh world with these members, f and read size over the buffer.
+pub fn fresh(image: &mut [u8], members: u32, f: u8, r: u8) -> Result<(), Reason> {
     let image = whole(image)?;
-    encode_fresh(&Fresh::new(members, f)?, image);
+    encode_fresh(&Fresh::new(members, f, r)?, image);
     Ok(())
 }
 

@@ -44,5 +44,5 @@ fn left_by_quorum(world: &World, view: u8) -> bool {
             left |= bit(answer.sender);
         }
     }
-    left.count_ones() >= world.view(view).quorum()
+    left.count_ones() >= world.view(view).sizes().write
 }

@@ -42,13 +42,13 @@ fn session(input: &[u8], accepted: &mut usize, lines: &mut String) -> Result<(),
     Ok(())
 }
 
-/// The fresh world that the first record asks for: only f and the member bits
-/// may be set.
+/// The fresh world that the first record asks for: only f, the read size and
+/// the member bits may be set.
 fn first_world(first: &Step) -> Result<World, Reason> {
-    if *first != Step::fresh(first.value, first.f) {
+    if *first != Step::fresh(first.value, first.f, first.who) {
         return Err(Reason::UnknownKind);
     }
-    World::fresh(first.value, first.f)
+    World::fresh(first.value, first.f, first.who)
 }
 
 fn completed(world: &World, number: u8, lines: &mut String) {

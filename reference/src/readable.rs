@@ -10,6 +10,7 @@ use std::ops::ControlFlow;
 use crate::entry::Entry;
 use crate::layout::{LAST_CLIENT, LAST_MESSAGE, LAST_SERVER, LAST_VIEW, MESSAGES, VERSION, VIEWS};
 use crate::premise::faulty_holders;
+use crate::refusal::Reason;
 use crate::world::{
     bit, message_kind, operation_kind, phase, Client, Message, Server, View, World,
 };
@@ -49,6 +50,8 @@ clauses! {
     ViewSpare,
     /// Views up to the newest, or to the pending one, obey the size rule.
     ViewSize,
+    /// Their read sizes are within the bounds.
+    ViewReadSize,
     /// Views beyond are zero.
     ViewBeyond,
     /// Each view's byte is the number of its faulty key holders; beyond the
@@ -238,11 +241,13 @@ fn last_recorded(world: &World) -> u8 {
 
 fn view(world: &World, number: u8, view: &View, judge: &mut impl Judge) -> Flow {
     let recorded = number <= last_recorded(world);
-    judge.clause(Clause::ViewSpare, view.spare == [0; 3])?;
-    judge.clause(Clause::ViewSize, !recorded || view.keeps_size_rule())?;
+    judge.clause(Clause::ViewSpare, view.spare == [0; 2])?;
+    let size_rule = if recorded { view.size_rule() } else { Ok(()) };
+    judge.clause(Clause::ViewSize, size_rule != Err(Reason::SizeRule))?;
+    judge.clause(Clause::ViewReadSize, size_rule != Err(Reason::ReadSize))?;
     judge.clause(
         Clause::ViewBeyond,
-        recorded || (view.members == 0 && view.f == 0),
+        recorded || (view.members == 0 && view.f == 0 && view.r == 0),
     )
 }
 

@@ -71,7 +71,7 @@ const USED: [[Range; 6]; step_kind::LAST as usize] = [
     [UNUSED, UNUSED, UNUSED, MESSAGE, UNUSED, UNUSED], // take
     [SERVER, UNUSED, UNUSED, UNUSED, UNUSED, UNUSED], // fault
     [SERVER, VIEW, UNUSED, MESSAGE, SOURCE, UNUSED], // false answer
-    [UNUSED, UNUSED, ANY, UNUSED, UNUSED, ANY],    // new view
+    [ANY, UNUSED, ANY, UNUSED, UNUSED, ANY],       // new view
     [CLIENT, UNUSED, UNUSED, UNUSED, UNUSED, UNUSED], // give up
 ];
 
@@ -200,8 +200,14 @@ impl Step {
     }
 
     pub fn new_view(members: u32, f: u8) -> Step {
+        Step::sized_view(members, f, 0)
+    }
+
+    /// A new view with a read size.
+    pub fn sized_view(members: u32, f: u8, r: u8) -> Step {
         Step {
             kind: step_kind::NEW_VIEW,
+            who: r,
             f,
             value: members,
             ..Step::default()
@@ -217,9 +223,10 @@ impl Step {
     }
 
     /// The program's first record.
-    pub fn fresh(members: u32, f: u8) -> Step {
+    pub fn fresh(members: u32, f: u8, r: u8) -> Step {
         Step {
             kind: step_kind::FRESH,
+            who: r,
             f,
             value: members,
             ..Step::default()

@@ -86,6 +86,8 @@ pub enum Reason {
     NothingEnding,
     /// 8: too few servers for that many faults.
     SizeRule,
+    /// 8: the read size is outside its bounds.
+    ReadSize,
     /// 8: view 32 is the last.
     LastView,
     /// 9: the faulty server lacks the key of the view it would show.
@@ -160,7 +162,7 @@ impl Reason {
             ServerFaulty | FaultyAlready | ServerCorrect => 6,
             NoViewYet | KeyGivenUp | EndOfOtherView | NotAMember | ViewNotBelow
             | KeyHeldAlready | TakenBefore | NobodyWaits | NothingOpen | NothingEnding => 7,
-            SizeRule | LastView => 8,
+            SizeRule | ReadSize | LastView => 8,
             LacksKey => 9,
             NoNumber | NoNumberToClose(_) => 10,
             CountTooLarge | OwnCountTooLarge => 11,

@@ -13,6 +13,9 @@ pub trait Rules {
     const START_RETURNS_KEY: bool = false;
     /// A read ends with its READ phase, whatever its answers carry.
     const SKIPS_WRITE_BACK: bool = false;
+    /// A read whose answers carry one entry ends with its READ phase, also where
+    /// the read size is below the write size.
+    const ENDS_READS_EARLY: bool = false;
     /// A write's count is one above the count read, whatever its client gave
     /// before.
     const FORGETS_OWN_COUNT: bool = false;
@@ -42,6 +45,11 @@ impl Rules for StartReturnsKey {
 pub struct SkipsWriteBack;
 impl Rules for SkipsWriteBack {
     const SKIPS_WRITE_BACK: bool = true;
+}
+
+pub struct EndsReadsEarly;
+impl Rules for EndsReadsEarly {
+    const ENDS_READS_EARLY: bool = true;
 }
 
 pub struct ForgetsOwnCount;

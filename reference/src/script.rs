@@ -15,9 +15,14 @@ pub struct Script {
 
 impl Script {
     pub fn new(members: u32, f: u8) -> Script {
+        Script::sized(members, f, 0)
+    }
+
+    /// From a fresh world with a read size.
+    pub fn sized(members: u32, f: u8, r: u8) -> Script {
         Script {
-            world: World::fresh(members, f).expect("the first view keeps the size rule"),
-            journal: Journal::new(members, f),
+            world: World::fresh(members, f, r).expect("the first view keeps the size rule"),
+            journal: Journal::sized(members, f, r),
         }
     }
 
@@ -65,6 +70,18 @@ impl Script {
     pub fn finish(&mut self, client: u8, servers: &[u8]) {
         while self.request(client) != 0 {
             self.exchange(self.request(client), servers);
+        }
+    }
+
+    /// The same, with no answer more than each phase needs.
+    pub fn finish_in_turn(&mut self, client: u8, servers: &[u8]) {
+        while self.request(client) != 0 {
+            let request = self.request(client);
+            for server in servers {
+                if self.request(client) == request {
+                    self.exchange(request, &[*server]);
+                }
+            }
         }
     }
 

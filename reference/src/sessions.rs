@@ -36,6 +36,7 @@ pub fn sessions() -> Vec<Session> {
         Session::new("worked", worked().input()),
         Session::new("write-back", write_back().input()),
         Session::new("one-exchange", one_exchange().input()),
+        Session::new("two-sizes", two_sizes().input()),
         Session::new("retired-server", retired_server().input()),
         Session::new("replaced-entry", replaced_entry().input()),
         Session::new("stale-read", stale_read().input()),
@@ -43,7 +44,7 @@ pub fn sessions() -> Vec<Session> {
         Session::new("given-up", given_up().input()),
         Session::new("given-up-surfaces", given_up_surfaces().input()),
         Session::new("many-views", drawn(53, &RUSH).input()),
-        Session::new("many-clients", drawn(53, &STORM).input()),
+        Session::new("many-clients", drawn(54, &STORM).input()),
         Session::new("full-year", drawn(210, &FULL).input()),
         Session::new("full-table", full_table().input()),
         Session::new("empty", Vec::new()),
@@ -53,10 +54,13 @@ pub fn sessions() -> Vec<Session> {
             "first-of-other-kind",
             worked().input()[STEP_SIZE..].to_vec(),
         ),
-        Session::new("first-with-who", with_byte(worked().input(), 1, 1)),
+        Session::new("first-with-read-size", with_byte(worked().input(), 1, 1)),
+        Session::new("first-with-view", with_byte(worked().input(), 2, 1)),
         Session::new("first-with-source", with_byte(worked().input(), 7, 1)),
         Session::new("no-members", Journal::new(0, 0).input()),
         Session::new("too-few-members", Journal::new(0b111, 1).input()),
+        Session::new("read-size-too-large", Journal::sized(0b1111, 0, 3).input()),
+        Session::new("read-size-too-small", Journal::sized(0b1111, 1, 2).input()),
         Session::new("world-alone", Journal::new(0b111, 0).input()),
     ];
     sessions.extend(refused_steps());
@@ -99,6 +103,27 @@ pub fn worked() -> Journal {
         .then(Step::take(6))
         .then(Step::deliver(1, 7))
         .then(Step::take(8))
+}
+
+/// Read size 1 and write size 4: a filing reads from one server, and a read
+/// always writes back. The next view has read size 2 of 3 servers, which is a
+/// quorum, so that a read may end in one exchange.
+pub fn two_sizes() -> Journal {
+    let mut script = Script::sized(0b1111, 0, 1);
+    let servers = [1, 2, 3, 4];
+    script.act(Step::write(1, 7));
+    script.finish_in_turn(1, &servers);
+    script.act(Step::read(2));
+    script.finish_in_turn(2, &[4, 3, 2, 1]);
+    script.act(Step::sized_view(0b0111, 0, 2));
+    script.exchange(script.world.header.end, &servers);
+    let start = script.last();
+    for server in [1, 2, 3] {
+        script.act(Step::deliver(server, start));
+    }
+    script.act(Step::read(2));
+    script.finish_in_turn(2, &[3, 2]);
+    script.journal
 }
 
 /// The write has reached two of three servers; the read hears one of them and
@@ -340,6 +365,7 @@ fn refused_steps() -> Vec<Session> {
         ("7-taken", busy, Step::take(2)),
         ("7-closed", late, Step::take(9)),
         ("8-size", begun, Step::new_view(0b111, 1)),
+        ("8-read-size", begun, Step::sized_view(0b111, 0, 3)),
         ("8-largest-f", begun, Step::new_view(u32::MAX, 255)),
         ("9-no-key", ending, Step::false_answer(4, 2, 1, 5)),
         ("12-idle", begun, Step::give_up(1)),

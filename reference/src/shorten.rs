@@ -24,6 +24,7 @@ pub fn shorten(
     image: &mut [u8],
     members: u32,
     f: u8,
+    r: u8,
     journal: &[u8],
     shorter: &mut [u8],
 ) -> Result<usize, Reason> {
@@ -37,7 +38,7 @@ pub fn shorten(
     if shorter.len() != journal.len() {
         return Err(Reason::ShorterLength);
     }
-    let fresh = World::fresh(members, f)?;
+    let fresh = World::fresh(members, f, r)?;
     encode(&fresh, image);
     let short = shortened(&fresh, journal).ok_or(Reason::NoStop)?.journal;
     shorter.fill(0);

@@ -155,7 +155,7 @@ pub fn administrator_call(record: &mut [u8], asked: &[u8]) -> Result<(), Reason>
     let [rule, spare, n0, n1, ..] = asked;
     let number = u16::from_le_bytes([n0, n1]);
     ask(administrator_fits(&header), Reason::RecordRange)?;
-    ask(spare == 0 && view.spare == [0; 3], Reason::CallRange)?;
+    ask(spare == 0 && view.spare == [0; 2], Reason::CallRange)?;
     let after = match rule {
         step_kind::NEW_VIEW => {
             ask(is_number(number), Reason::CallRange)?;

@@ -60,6 +60,9 @@ pub enum Deed {
     /// The answer closed the READ phase of a read, whose answers all carry one
     /// entry: the read is complete.
     OneExchange,
+    /// The same in a view whose read size is below its write size: the entry is
+    /// written back.
+    WroteBackOne,
     /// A server turned faulty.
     Faulted,
     /// A faulty server answered.
@@ -103,7 +106,7 @@ pub fn step<R: Rules>(world: &mut World, step: &Step) -> Outcome {
         step_kind::FALSE_ANSWER => {
             false_answer(world, step.who, step.view, step.message, step.source)
         }
-        step_kind::NEW_VIEW => new_view(world, step.value, step.f),
+        step_kind::NEW_VIEW => new_view(world, step.value, step.f, step.who),
         step_kind::GIVE_UP => give_up(world, step.who),
         _ => Err(Reason::UnknownKind),
     }
@@ -131,10 +134,11 @@ fn give_up(world: &mut World, number: u8) -> Outcome {
 }
 
 /// The administrator records the next view and ends the newest.
-fn new_view(world: &mut World, members: u32, f: u8) -> Outcome {
+fn new_view(world: &mut World, members: u32, f: u8, r: u8) -> Outcome {
     let pending = View {
         members,
         f,
+        r,
         ..View::default()
     };
     let after = administrator::call(&world.header, &pending, world.next_number())?;

@@ -1,5 +1,5 @@
 //! Taking an answer: it goes to the head of its request's chain, and closes
-//! what waits for it if the answers of its view now come from a quorum.
+//! what waits for it if the answers of its view now come from enough servers.
 
 use crate::administrator;
 use crate::client;
@@ -23,11 +23,11 @@ struct Tally {
 }
 
 impl Tally {
-    fn reaches<R: Rules>(&self, quorum: u32) -> bool {
+    fn reaches<R: Rules>(&self, size: u32) -> bool {
         if R::COUNTS_ANSWERS {
-            self.answers >= quorum
+            self.answers >= size
         } else {
-            self.servers.count_ones() >= quorum
+            self.servers.count_ones() >= size
         }
     }
 }
@@ -46,12 +46,20 @@ pub fn take<R: Rules>(world: &mut World, number: u16) -> Outcome {
         return Ok(Done::just(Deed::CountsForNothing));
     }
     let tally = tally(world, &answer, R::ADDS_UP_VIEWS && close != Close::End);
-    if !tally.reaches::<R>(world.view(answer.view).quorum()) {
+    let sizes = world.view(answer.view).sizes();
+    let size = match close {
+        Close::ReadOfWrite | Close::ReadOfRead => sizes.read,
+        Close::WriteOfWrite | Close::WriteOfRead | Close::End => sizes.write,
+    };
+    if !tally.reaches::<R>(size) {
         link(world, number);
         return Ok(Done::just(Deed::LeftOpen(close)));
     }
     match close {
-        Close::ReadOfWrite | Close::ReadOfRead => close_read::<R>(world, number, close, &tally),
+        Close::ReadOfWrite | Close::ReadOfRead => {
+            let enough = sizes.read >= sizes.write || R::ENDS_READS_EARLY;
+            close_read::<R>(world, number, close, &tally, enough)
+        }
         Close::WriteOfWrite | Close::WriteOfRead => Ok(close_write(world, number, close)),
         Close::End => close_end(world, number, tally.largest),
     }
@@ -127,14 +135,21 @@ fn asker(world: &World, number: u16) -> u8 {
 }
 
 /// A READ phase closes: the read is complete, or the WRITE goes out, with a new
-/// entry for a write and the one chosen for a read.
-fn close_read<R: Rules>(world: &mut World, number: u16, close: Close, tally: &Tally) -> Outcome {
+/// entry for a write and the one chosen for a read. One exchange is enough only
+/// where the read size is not below the write size.
+fn close_read<R: Rules>(
+    world: &mut World,
+    number: u16,
+    close: Close,
+    tally: &Tally,
+    enough: bool,
+) -> Outcome {
     let asker = asker(world, number);
     let after = client::close_read::<R>(
         world.client(asker),
         asker,
         tally.largest,
-        tally.differ.is_none(),
+        enough && tally.differ.is_none(),
         world.next_number(),
     )?;
     if after.phase == phase::IDLE {
@@ -153,6 +168,7 @@ fn close_read<R: Rules>(world: &mut World, number: u16, close: Close, tally: &Ta
     *world.client_mut(asker) = after;
     Ok(Done::just(match tally.differ {
         Some(differ) if close == Close::ReadOfRead => Deed::WroteBack(differ),
+        None if close == Close::ReadOfRead => Deed::WroteBackOne,
         _ => Deed::Closed(close),
     }))
 }

@@ -6,7 +6,7 @@
 
 use crate::entry::Entry;
 use crate::layout::{CLIENTS, LAST_MESSAGE, MESSAGES, SERVERS, VERSION, VIEWS};
-use crate::quorum::{quorum, size_rule};
+use crate::quorum::{size_rule, sizes, Sizes};
 use crate::refusal::Reason;
 
 /// Kinds of messages.
@@ -46,7 +46,9 @@ pub struct Header {
 pub struct View {
     pub members: u32,
     pub f: u8,
-    pub spare: [u8; 3],
+    /// The read size; 0 means a quorum for everything.
+    pub r: u8,
+    pub spare: [u8; 2],
 }
 
 #[derive(Clone, Copy, Debug, Default, PartialEq, Eq)]
@@ -114,12 +116,12 @@ impl View {
         self.members.count_ones()
     }
 
-    pub fn quorum(&self) -> u32 {
-        quorum(self.size(), u32::from(self.f))
+    pub fn sizes(&self) -> Sizes {
+        sizes(self.size(), u32::from(self.f), u32::from(self.r))
     }
 
-    pub fn keeps_size_rule(&self) -> bool {
-        size_rule(self.size(), u32::from(self.f))
+    pub fn size_rule(&self) -> Result<(), Reason> {
+        size_rule(self.size(), u32::from(self.f), u32::from(self.r))
     }
 
     pub fn has_member(&self, server: u8) -> bool {
@@ -142,8 +144,8 @@ impl Server {
     }
 }
 
-/// What is not zero in a fresh world: view 1 has these members and f, and each
-/// member holds view 1 and its key.
+/// What is not zero in a fresh world: view 1 has these members, f and read
+/// size, and each member holds view 1 and its key.
 pub struct Fresh {
     pub header: Header,
     pub views: [View; VIEWS],
@@ -151,15 +153,14 @@ pub struct Fresh {
 }
 
 impl Fresh {
-    pub fn new(members: u32, f: u8) -> Result<Fresh, Reason> {
+    pub fn new(members: u32, f: u8, r: u8) -> Result<Fresh, Reason> {
         let first = View {
             members,
             f,
+            r,
             ..View::default()
         };
-        if !first.keeps_size_rule() {
-            return Err(Reason::SizeRule);
-        }
+        first.size_rule()?;
         let mut fresh = Fresh {
             header: World::ZERO.header,
             views: World::ZERO.views,
@@ -192,7 +193,8 @@ impl World {
         views: [View {
             members: 0,
             f: 0,
-            spare: [0; 3],
+            r: 0,
+            spare: [0; 2],
         }; VIEWS],
         holders: [0; VIEWS],
         servers: [Server {
@@ -221,8 +223,8 @@ impl World {
     };
 
     /// The world that a run begins with.
-    pub fn fresh(members: u32, f: u8) -> Result<World, Reason> {
-        let fresh = Fresh::new(members, f)?;
+    pub fn fresh(members: u32, f: u8, r: u8) -> Result<World, Reason> {
+        let fresh = Fresh::new(members, f, r)?;
         Ok(World {
             header: fresh.header,
             views: fresh.views,

@@ -57,14 +57,25 @@ fn result(answer: u64) -> Result<u64, Refusal> {
     }
 }
 
-/// Makes the fresh world of these members, bit s-1 for server s, and f.
-pub fn fresh(image: &mut [u8], members: u32, f: u8) -> Result<(), Refusal> {
-    result(raw::fresh(image, members, f)).map(|_| ())
+/// How many servers close READ, and how many WRITE and END.
+#[derive(Clone, Copy, Debug, PartialEq, Eq)]
+pub struct Sizes {
+    pub read: u32,
+    pub write: u32,
 }
 
-/// The quorum size of n servers with threshold f.
-pub fn quorum(n: u32, f: u32) -> Result<u32, Refusal> {
-    result(raw::quorum(n, f)).map(|size| size as u32)
+/// Makes the fresh world of these members, bit s-1 for server s, f and read size
+/// r, 0 for a quorum.
+pub fn fresh(image: &mut [u8], members: u32, f: u8, r: u8) -> Result<(), Refusal> {
+    result(raw::fresh(image, members, f, r)).map(|_| ())
+}
+
+/// Both sizes of n servers with threshold f and read size r.
+pub fn quorum(n: u32, f: u32, r: u32) -> Result<Sizes, Refusal> {
+    result(raw::quorum(n, f, r)).map(|sizes| Sizes {
+        read: (sizes % 256) as u32,
+        write: (sizes / 256) as u32,
+    })
 }
 
 /// One step. Gives the number of the client whose operation it completed.
@@ -119,17 +130,18 @@ pub fn judge(log: &[u8], order: &mut [u8]) -> Result<u64, Refusal> {
 }
 
 /// The short journal behind the refusal that stops the replay of a journal from
-/// the fresh world of these members and f. Gives the number of its steps;
+/// the fresh world of these members, f and r. Gives the number of its steps;
 /// `shorter`, as long as the journal, begins with them and is zero after them.
 /// When done, and after 15, the image holds the fresh world.
 pub fn shorten(
     image: &mut [u8],
     members: u32,
     f: u8,
+    r: u8,
     journal: &[u8],
     shorter: &mut [u8],
 ) -> Result<u64, Refusal> {
-    result(raw::shorten(image, members, f, journal, shorter))
+    result(raw::shorten(image, members, f, r, journal, shorter))
 }
 
 /// Chooses among entries without a signature: of those that at least b+1 of the n

@@ -5,8 +5,8 @@
 
 mod c {
     extern "C" {
-        pub fn zw_fresh(image: *mut u8, n: usize, members: u32, f: u8) -> u64;
-        pub fn zw_quorum(n: u32, f: u32) -> u64;
+        pub fn zw_fresh(image: *mut u8, n: usize, members: u32, f: u8, r: u8) -> u64;
+        pub fn zw_quorum(n: u32, f: u32, r: u32) -> u64;
         pub fn zw_step(image: *mut u8, n: usize, step: *const u8, m: usize) -> u64;
         pub fn zw_premise(image: *const u8, n: usize) -> u64;
         pub fn zw_replay(image: *mut u8, n: usize, journal: *const u8, m: usize) -> u64;
@@ -27,6 +27,7 @@ mod c {
             n: usize,
             members: u32,
             f: u8,
+            r: u8,
             journal: *const u8,
             m: usize,
             shorter: *mut u8,
@@ -62,14 +63,14 @@ fn on(function: OnRecord, lent: &mut [u8], read: &[u8]) -> u64 {
     unsafe { function(lent.as_mut_ptr(), lent.len(), read.as_ptr(), read.len()) }
 }
 
-pub fn fresh(image: &mut [u8], members: u32, f: u8) -> u64 {
+pub fn fresh(image: &mut [u8], members: u32, f: u8, r: u8) -> u64 {
     // SAFETY: the pointer and length are those of a slice lent for writing.
-    unsafe { c::zw_fresh(image.as_mut_ptr(), image.len(), members, f) }
+    unsafe { c::zw_fresh(image.as_mut_ptr(), image.len(), members, f, r) }
 }
 
-pub fn quorum(n: u32, f: u32) -> u64 {
+pub fn quorum(n: u32, f: u32, r: u32) -> u64 {
     // SAFETY: the call takes numbers alone.
-    unsafe { c::zw_quorum(n, f) }
+    unsafe { c::zw_quorum(n, f, r) }
 }
 
 pub fn premise(image: &[u8]) -> u64 {
@@ -116,12 +117,19 @@ pub fn judge(log: &[u8], order: &mut [u8]) -> u64 {
     unsafe { c::zw_judge(read, log.len(), lent, order.len()) }
 }
 
-pub fn shorten(image: &mut [u8], members: u32, f: u8, journal: &[u8], shorter: &mut [u8]) -> u64 {
+pub fn shorten(
+    image: &mut [u8],
+    members: u32,
+    f: u8,
+    r: u8,
+    journal: &[u8],
+    shorter: &mut [u8],
+) -> u64 {
     let (lent, n) = (image.as_mut_ptr(), image.len());
     let (read, m) = (journal.as_ptr(), journal.len());
     let (written, k) = (shorter.as_mut_ptr(), shorter.len());
     // SAFETY: all three are pointer and length of slices, which do not overlap.
-    unsafe { c::zw_shorten(lent, n, members, f, read, m, written, k) }
+    unsafe { c::zw_shorten(lent, n, members, f, r, read, m, written, k) }
 }
 
 pub fn vouch(answers: &[u8], n: u32, b: u32, entry: &mut [u8]) -> u64 {

@@ -82,11 +82,11 @@ fn short_journals() {
     let read = [2, 2, 0, 0, 0, 0, 0, 0, 0, 0, 0, 0];
     let journal = [read, give_up].concat();
     let mut shorter = [7; 2 * STEP];
-    assert_eq!(shorten(&mut image, 1, 0, &journal, &mut shorter), Ok(1));
+    assert_eq!(shorten(&mut image, 1, 0, 0, &journal, &mut shorter), Ok(1));
     assert_eq!(shorter[..STEP], give_up);
     assert_eq!(shorter[STEP..], [0; STEP]);
     let mut first = vec![0; IMAGE];
-    fresh(&mut first, 1, 0).unwrap();
+    fresh(&mut first, 1, 0, 0).unwrap();
     assert_eq!(image, first);
     let stopped = replay(&mut image, &shorter[..STEP]);
     assert_eq!((stopped.steps, stopped.stop), (0, Some(Refusal(12))));
@@ -95,17 +95,17 @@ fn short_journals() {
     image.fill(7);
     let once = [read, [0; 12]].concat();
     assert_eq!(
-        shorten(&mut image, 1, 0, &once[..STEP], &mut shorter),
+        shorten(&mut image, 1, 0, 0, &once[..STEP], &mut shorter),
         Err(Refusal(1))
     );
     assert_eq!(
-        shorten(&mut image, 0, 0, &once, &mut shorter),
+        shorten(&mut image, 0, 0, 0, &once, &mut shorter),
         Err(Refusal(8))
     );
     assert!(image.iter().all(|&byte| byte == 7));
     let mut room = [7; STEP];
     assert_eq!(
-        shorten(&mut image, 1, 0, &read, &mut room),
+        shorten(&mut image, 1, 0, 0, &read, &mut room),
         Err(Refusal(15))
     );
     assert_eq!(room, [7; STEP]);
@@ -114,7 +114,7 @@ fn short_journals() {
     let long = vec![0; (SHORTEN_STEPS + 1) * STEP];
     let mut longer = long.clone();
     assert_eq!(
-        shorten(&mut image, 1, 0, &long, &mut longer),
+        shorten(&mut image, 1, 0, 0, &long, &mut longer),
         Err(Refusal(1))
     );
 }

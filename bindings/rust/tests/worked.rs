@@ -3,7 +3,7 @@
 
 use zemawulo::{
     administrator, client, fresh, premise, quorum, replay, resume, server, step, Refusal, Replayed,
-    CLIENT, IMAGE, STEP,
+    Sizes, CLIENT, IMAGE, STEP,
 };
 
 fn step_bytes(kind: u8, who: u8, message: u16, value: u32) -> [u8; 12] {
@@ -40,7 +40,7 @@ fn entry(count: u32, writer: u8, value: u32) -> [u8; 12] {
 #[test]
 fn worked_session_step_by_step() {
     let mut image = vec![0; IMAGE];
-    fresh(&mut image, 1, 0).unwrap();
+    fresh(&mut image, 1, 0, 0).unwrap();
     let mut completed = Vec::new();
     for bytes in worked() {
         if let Some(number) = step(&mut image, &bytes).unwrap() {
@@ -56,13 +56,13 @@ fn worked_session_step_by_step() {
 #[test]
 fn replay_gives_the_same_image_and_stops_where_it_must() {
     let mut one_by_one = vec![0; IMAGE];
-    fresh(&mut one_by_one, 1, 0).unwrap();
+    fresh(&mut one_by_one, 1, 0, 0).unwrap();
     for bytes in worked() {
         step(&mut one_by_one, &bytes).unwrap();
     }
     let mut journal: Vec<u8> = worked().concat();
     let mut image = vec![0; IMAGE];
-    fresh(&mut image, 1, 0).unwrap();
+    fresh(&mut image, 1, 0, 0).unwrap();
     let all = Replayed {
         steps: 8,
         stop: None,
@@ -70,7 +70,7 @@ fn replay_gives_the_same_image_and_stops_where_it_must() {
     assert_eq!(replay(&mut image, &journal), all);
     assert_eq!(image, one_by_one);
 
-    fresh(&mut image, 1, 0).unwrap();
+    fresh(&mut image, 1, 0, 0).unwrap();
     journal.extend_from_slice(&step_bytes(4, 0, 2, 0));
     let stopped = Replayed {
         steps: 8,
@@ -90,11 +90,11 @@ fn replay_gives_the_same_image_and_stops_where_it_must() {
 fn the_rest_of_a_journal_leads_to_the_same_end() {
     let journal: Vec<u8> = worked().concat();
     let mut whole = vec![0; IMAGE];
-    fresh(&mut whole, 1, 0).unwrap();
+    fresh(&mut whole, 1, 0, 0).unwrap();
     replay(&mut whole, &journal);
     for done in 0..=8 {
         let mut image = vec![0; IMAGE];
-        fresh(&mut image, 1, 0).unwrap();
+        fresh(&mut image, 1, 0, 0).unwrap();
         replay(&mut image, &journal[..done * STEP]);
         let rest = Replayed {
             steps: 8 - done as u64,
@@ -108,7 +108,7 @@ fn the_rest_of_a_journal_leads_to_the_same_end() {
         stop: Some(Refusal(4)),
     };
     let mut image = vec![0; IMAGE];
-    fresh(&mut image, 1, 0).unwrap();
+    fresh(&mut image, 1, 0, 0).unwrap();
     replay(&mut image, &journal[..STEP]);
     assert_eq!(resume(&mut image, &journal, 0), first_again);
     let fewer = Replayed {
@@ -136,18 +136,42 @@ fn marked_sizes() {
         (32, 10, 22),
     ];
     for (n, f, size) in marked {
-        assert_eq!(quorum(n, f), Ok(size));
+        let sizes = Sizes {
+            read: size,
+            write: size,
+        };
+        assert_eq!(quorum(n, f, 0), Ok(sizes));
     }
     for (n, f) in [(0, 0), (3, 1), (32, 11), (33, 0), (32, u32::MAX)] {
-        assert_eq!(quorum(n, f), Err(Refusal(8)));
+        assert_eq!(quorum(n, f, 0), Err(Refusal(8)));
     }
+}
+
+#[test]
+fn permitted_read_sizes_of_ten_servers() {
+    for r in 1..300 {
+        let sizes = (3..=6).contains(&r).then(|| Sizes {
+            read: r,
+            write: 12 - r,
+        });
+        assert_eq!(quorum(10, 1, r), sizes.ok_or(Refusal(8)), "{r}");
+    }
+    let mut image = vec![7; IMAGE];
+    assert_eq!(fresh(&mut image, 1023, 1, 2), Err(Refusal(8)));
+    assert_eq!(fresh(&mut image, 1023, 1, 7), Err(Refusal(8)));
+    assert!(image.iter().all(|&byte| byte == 7));
+    assert_eq!(fresh(&mut image, 1023, 1, 3), Ok(()));
+    assert_eq!(premise(&image), Ok(true));
+    // A read size outside its bounds makes the image unreadable.
+    image[21] = 7;
+    assert_eq!(premise(&image), Err(Refusal(2)));
 }
 
 #[test]
 fn refusals_change_no_byte() {
     let mut image = vec![7; IMAGE];
-    assert_eq!(fresh(&mut image, 0, 0), Err(Refusal(8)));
-    assert_eq!(fresh(&mut image[1..], 1, 0), Err(Refusal(1)));
+    assert_eq!(fresh(&mut image, 0, 0, 0), Err(Refusal(8)));
+    assert_eq!(fresh(&mut image[1..], 1, 0, 0), Err(Refusal(1)));
     assert_eq!(step(&mut image, &[0; 12]), Err(Refusal(2)));
     assert_eq!(step(&mut image, &[0; 11]), Err(Refusal(1)));
     assert_eq!(premise(&image), Err(Refusal(2)));
@@ -256,17 +280,26 @@ fn one_client() {
     assert_eq!(client(&mut one, &full), Ok(false));
     let mut writer = record(1, 1, 1, entry(0, 0, 7), 0);
     assert_eq!(client(&mut writer, &full), Err(Refusal(11)));
-    assert_eq!(client(&mut one, &asked_of(2, 1, 9, none, 0)), Err(Refusal(3)));
+    assert_eq!(
+        client(&mut one, &asked_of(2, 1, 9, none, 0)),
+        Err(Refusal(3))
+    );
 }
 
 #[test]
 fn one_client_reads_in_one_exchange() {
     let reading = record(1, 2, 9, entry(0, 0, 0), 6);
     let mut one = reading.clone();
-    assert_eq!(client(&mut one, &asked_of(4, 3, 0, entry(5, 2, 9), 1)), Ok(true));
+    assert_eq!(
+        client(&mut one, &asked_of(4, 3, 0, entry(5, 2, 9), 1)),
+        Ok(true)
+    );
     assert_eq!(one, record(0, 2, 0, entry(5, 2, 9), 6));
     one = reading.clone();
-    assert_eq!(client(&mut one, &asked_of(4, 3, 11, entry(5, 2, 9), 0)), Ok(false));
+    assert_eq!(
+        client(&mut one, &asked_of(4, 3, 11, entry(5, 2, 9), 0)),
+        Ok(false)
+    );
     assert_eq!(one, record(2, 2, 11, entry(5, 2, 9), 6));
     // Without a number to write back, a flag of 2, and a flag where nothing closes.
     for asked in [
@@ -285,11 +318,17 @@ fn one_client_gives_up() {
     let none = entry(0, 0, 0);
     let give_up = asked_of(8, 0, 0, none, 0);
     let mut one = record(2, 1, 2, entry(6, 3, 7), 6);
-    assert_eq!(client(&mut one, &asked_of(8, 3, 0, none, 0)), Err(Refusal(3)));
+    assert_eq!(
+        client(&mut one, &asked_of(8, 3, 0, none, 0)),
+        Err(Refusal(3))
+    );
     assert_eq!(client(&mut one, &give_up), Ok(false));
     assert_eq!(one, record(0, 0, 0, none, 6));
     assert_eq!(client(&mut one, &give_up), Err(Refusal(12)));
-    assert_eq!(client(&mut one, &asked_of(1, 0, 9, entry(0, 0, 8), 0)), Ok(false));
+    assert_eq!(
+        client(&mut one, &asked_of(1, 0, 9, entry(0, 0, 8), 0)),
+        Ok(false)
+    );
     let close = asked_of(4, 3, 11, entry(5, 2, 9), 0);
     assert_eq!(client(&mut one, &close), Ok(false));
     assert_eq!(one, record(2, 1, 11, entry(7, 3, 8), 7));

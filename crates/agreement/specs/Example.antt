@@ -62,7 +62,7 @@ example-history : operations-of 15 1 example
 unfolding operations-of example
 example-history = refl
 
-begins-four : fresh 15 1 ≡ done (begun 15 1)
+begins-four : fresh 15 1 0 ≡ done (begun 15 1)
 unfolding fresh run-of
 begins-four = refl
 
@@ -72,14 +72,14 @@ unfolding premise-after example
 example-premise = refl
 
 -- the theorem's order: the write of 9, which did not end, stands in it before the read that returned its entry
-example-order : linearizable 15 1 (begun 15 1) begins-four example example-premise .order
+example-order : linearizable 15 1 0 (begun 15 1) begins-four example example-premise .order
     ≡ (operated WRITES 2 14 (entry 1 1 7) ∷ operated READS 15 27 (entry 1 1 7) ∷ operated WRITES 39 0 (entry 2 4 9) ∷ operated READS 38 60 (entry 2 4 9) ∷ [])
 unfolding operations-of example linearizable order stands filter sort compared any same sent content
 example-order = refl
 
 -- ---- given-up work: server 1 alone, f 0
 
-begins-one : fresh 1 0 ≡ done (begun 1 0)
+begins-one : fresh 1 0 0 ≡ done (begun 1 0)
 unfolding fresh run-of
 begins-one = refl
 
@@ -88,7 +88,7 @@ unfolding premise-after given-up
 given-up-premise = refl
 
 -- the theorem's order: the write of 8, given up, stands before the read that returned its entry; that of 6 stands nowhere
-given-up-order : linearizable 1 0 (begun 1 0) begins-one given-up given-up-premise .order
+given-up-order : linearizable 1 0 0 (begun 1 0) begins-one given-up given-up-premise .order
     ≡ (operated WRITES 3 0 (entry 1 1 8) ∷ operated READS 12 14 (entry 1 1 8) ∷ operated WRITES 7 16 (entry 2 1 9) ∷ [])
 unfolding operations-of given-up linearizable order stands filter sort compared any same sent content
 given-up-order = refl

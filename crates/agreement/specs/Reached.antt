@@ -184,11 +184,11 @@ run-reached r [] h = h
 run-reached r (b ∷ bs) h = run-reached (noted r b (stepBytes (r .world) b)) bs (noted-reached r b h)
 
 -- every run from a fresh world that is not refused
-pub reached : (bits f : ℕ) (w : World) → fresh bits f ≡ done w → (bs : List (List ℕ)) → Reached (runFrom w bs)
+pub reached : (bits f r : ℕ) (w : World) → fresh bits f r ≡ done w → (bs : List (List ℕ)) → Reached (runFrom w bs)
 unfolding fresh runFrom
-reached bits f w e bs =
+reached bits f r w e bs =
     let (z, d) = passed _ _ _ _ e in
-    run-reached _ bs (subst (λ (x : World). Reached (record { world = x; place = 1; operations = [] })) (is-done d) (from-fresh (viewWith bits f) z))
+    run-reached _ bs (subst (λ (x : World). Reached (record { world = x; place = 1; operations = [] })) (is-done d) (from-fresh (viewWith bits f r) z))
   where
     is-done : {x y : World} → done x ≡ done y → x ≡ y
     is-done e = cc

@@ -88,9 +88,9 @@ module _ {w : World} {place : ℕ} {l : List Tracked} (s : Story w place l) wher
       ∙ b .is
 
 -- "in a run its stamp is never given again": for every fresh world and every list of steps, given by any bytes
-pub never-again : (members f : ℕ) (w : World) → fresh members f ≡ done w → (steps : List (List ℕ)) → (x y : Operation)
+pub never-again : (members f r : ℕ) (w : World) → fresh members f r ≡ done w → (steps : List (List ℕ)) → (x y : Operation)
     → In x (history (runFrom w steps)) → In y (history (runFrom w steps)) → x .kind ≡ WRITES → y .kind ≡ WRITES
     → {e g : Entry} → x .entry ≡ some e → y .entry ≡ some g → countOf e ≡ countOf g → writerOf e ≡ writerOf g → x ≡ y
 unfolding history
-never-again members f w e steps x y i j p q a b c d =
-    stamped-once (reached members f w e steps .story) x y i j p q a b (record { count = c; writer = d })
+never-again members f r w e steps x y i j p q a b c d =
+    stamped-once (reached members f r w e steps .story) x y i j p q a b (record { count = c; writer = d })

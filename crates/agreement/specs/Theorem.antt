@@ -22,7 +22,7 @@ consistent r h p =
 
 -- For every fresh world and every list of steps, given by any bytes: if the premise holds in the last world, the operations of
 -- the run have one order in which each read returns the last write before it.
-unfoldable pub linearizable : (members f : ℕ) (w : World) → fresh members f ≡ done w → (steps : List (List ℕ)) → premise (runFrom w steps .world) ≡ true
+unfoldable pub linearizable : (members f r : ℕ) (w : World) → fresh members f r ≡ done w → (steps : List (List ℕ)) → premise (runFrom w steps .world) ≡ true
     → Consistent (history (runFrom w steps))
 unfolding consistent
-linearizable members f w e steps p = consistent (runFrom w steps) (reached members f w e steps) p
+linearizable members f r w e steps p = consistent (runFrom w steps) (reached members f r w e steps) p

@@ -32,15 +32,15 @@ use Rattle.lines.specs.Lines.{operationLine}
 use Rattle.archive_run.specs.declared.turns.Moved.{Moved}
 use Rattle.archive_run.specs.declared.turns.Moved.the-variants.{Stopped, Went}
 
--- "12 bytes (kind 0, f, member bits in value, other fields zero)"
+-- "12 bytes (kind 0, f, member bits in value, other fields zero)", but r "in its first record's who"
 unfoldable pub firstFits : Step → Bool
-firstFits s = eqb (s .kind) 0 && (eqb (s .who) 0 && (eqb (s .view .0) 0 && (eqb (s .message .0) 0 && eqb (s .source .0) 0)))
+firstFits s = eqb (s .kind) 0 && (eqb (s .view .0) 0 && (eqb (s .message .0) 0 && eqb (s .source .0) 0))
 
 -- "A record cut short stops it with 1, a first record of another form with 3, a refused world with 8."
 unfoldable pub firstOn : List ℕ → List ℕ → Outcome
 firstOn i b =
     if (eqb (length b) stepWidth)
-    (if (firstFits (stepOf b)) (freshOn i (stepOf b .value) (stepOf b .f)) (record { refusal = 3; image = i }))
+    (if (firstFits (stepOf b)) (freshOn i (stepOf b .value) (stepOf b .f) (stepOf b .who)) (record { refusal = 3; image = i }))
     (record { refusal = 1; image = i })
 
 -- the line of the operation that client c completed, from its record in the image; none for no client
@@ -116,18 +116,18 @@ pub does-legible : (r : Stepped) (l l′ b : List ℕ) → Legible l → length 
 does-legible r l l′ b h e d = subst (Does r l l′) (sym (step-legible l b h e)) d
 
 -- the fresh world's
-fresh-legible : (i : List ℕ) (members f : ℕ) → freshOn i members f .refusal ≡ 0 → Legible (freshOn i members f .image)
+fresh-legible : (i : List ℕ) (members f r : ℕ) → freshOn i members f r .refusal ≡ 0 → Legible (freshOn i members f r .image)
 unfolding freshOn guard
-fresh-legible i members f e = go (eqb (length i) imageSize) (fresh members f) refl e
+fresh-legible i members f r e = go (eqb (length i) imageSize) (fresh members f r) refl e
   where
-    go : (b : Bool) (x : Result World) → fresh members f ≡ x → outcome i (guard b 1 x) .refusal ≡ 0 → Legible (outcome i (guard b 1 x) .image)
-    go true (done w) q e = spelled w (fresh-kept members f w q) (encode w) refl
-    go true (refused n) q e = absurd (let (l, u) = among-ranged 8 8 (8 ∷ []) n refl (fresh-refuses members f .numbers n q) in omega arith)
+    go : (b : Bool) (x : Result World) → fresh members f r ≡ x → outcome i (guard b 1 x) .refusal ≡ 0 → Legible (outcome i (guard b 1 x) .image)
+    go true (done w) q e = spelled w (fresh-kept members f r w q) (encode w) refl
+    go true (refused n) q e = absurd (let (l, u) = among-ranged 8 8 (8 ∷ []) n refl (fresh-refuses members f r .numbers n q) in omega arith)
     go false x q e = absurd (omega arith)
 
 pub first-legible : (i b : List ℕ) → firstOn i b .refusal ≡ 0 → Legible (firstOn i b .image)
 unfolding firstOn
-first-legible i b e = go (eqb (length b) stepWidth) (firstFits (stepOf b)) (freshOn i (stepOf b .value) (stepOf b .f)) (fresh-legible i (stepOf b .value) (stepOf b .f)) e
+first-legible i b e = go (eqb (length b) stepWidth) (firstFits (stepOf b)) (freshOn i (stepOf b .value) (stepOf b .f) (stepOf b .who)) (fresh-legible i (stepOf b .value) (stepOf b .f) (stepOf b .who)) e
   where
     go : (p q : Bool) (x : Outcome) → (x .refusal ≡ 0 → Legible (x .image))
         → if p (if q x (record { refusal = 3; image = i })) (record { refusal = 1; image = i }) .refusal ≡ 0

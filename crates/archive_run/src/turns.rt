@@ -24,7 +24,7 @@ pub enum Moved {
     Went(usize),
 }
 
-// "kind 0, f, member bits in value, other fields zero"
+// "kind 0, f, member bits in value, other fields zero", but r in who
 fn first_fits(s: Step) -> bool
     ensures { λ r. ⌜ r ≡ firstFits s ⌝ }
 {
@@ -32,9 +32,6 @@ fn first_fits(s: Step) -> bool
     let message = s.message;
     let source = s.source;
     if s.kind != 0 {
-        return false;
-    }
-    if s.who != 0 {
         return false;
     }
     if view.0 != 0 {
@@ -57,7 +54,7 @@ pub fn first(image: &mut [u8], bytes: &[u8]) -> u8
     if !first_fits(s) {
         return 3;
     }
-    fresh(image, s.value, s.f)
+    fresh(image, s.value, s.f, s.who)
 }
 
 // The line of the operation that client c completed, from its record in the image; none for no client.

@@ -5,7 +5,7 @@ use mathlib.Core.Option.{none, some}
 use mathlib.Core.Path.{_≡_, refl}
 use Rattle.checked.specs.Types.{Entry, Server, Phase, Idle, Reading, Writing, Client, Settled, EndSent, Administrator, Message}
 use Rattle.protocol.specs.Tools.{countTo, holds, bitOf, Result, refused, done, guard}
-use Rattle.protocol.specs.Sizes.{quorum, size, sized, writeSize, viewWith}
+use Rattle.protocol.specs.Sizes.{quorum, size, sized, readSize, viewWith}
 use Rattle.protocol.specs.Entries.{entry, empty, below, larger, same, entryFits}
 use Rattle.protocol.specs.Servers.{READ, WRITE, END, START, ANSWER, Reply, comparing, replacing, withoutKey, joining, serve}
 use Rattle.protocol.specs.Readable.{clientRange}
@@ -60,8 +60,8 @@ read-taken : takeRule (answer 1 1 1 empty) 1 ≡ done (answer 1 1 1 empty)
 unfolding answer takeRule guard messageInRange entryFits same numberFits
 read-taken = refl
 
-read-closes : closesAt (firstAnswer (answer 1 1 1 empty)) (writeSize (viewWith 1 0)) ≡ some (record { entry = empty; one = true })
-unfolding answer closesAt firstAnswer bitIn bitOf holds countTo writeSize quorum size
+read-closes : closesAt (firstAnswer (answer 1 1 1 empty)) (readSize (viewWith 1 0 0)) ≡ some (record { entry = empty; one = true })
+unfolding answer closesAt firstAnswer bitIn bitOf holds countTo readSize quorum size
 read-closes = refl
 
 write-next : closeRule (client (Reading (number 1)) WRITES (entry 0 0 7) 0) 1 empty true 3
@@ -90,7 +90,7 @@ unfolding client closeRule guard clientInRange clientRange entryFits numberFits 
 read-back = refl
 
 -- view 2 is called
-view-called : callRule (administrator 1) (viewWith 3 0) 5 ≡ done (ending 1 5)
+view-called : callRule (administrator 1) (viewWith 3 0 0) 5 ≡ done (ending 1 5)
 unfolding administrator ending callRule guard administratorInRange numberFits call sized size countTo holds
 view-called = refl
 

@@ -44,7 +44,7 @@ isReading (Writing r) = false
 abbrev pub nextFits : Client → Bool → ℕ → Bool
 nextFits c one n = (not (isReading (c .phase)) || once c one) || numberFits n
 
--- a client's phase closes; one: all answers of the chosen view carry the entry e
+-- a client's phase closes; one: all answers of the chosen view carry the entry e, and the view permits one exchange
 unfoldable pub closeRule : Client → ℕ → Entry → Bool → ℕ → Result Close
 closeRule c who e one n =
     guard (clientInRange c && (within 1 clients who && (entryFits e && nextFits c one n))) 3 (close c who e one n)

@@ -161,8 +161,8 @@ fn next_fits(c: Client, one: bool, n: MessageNumber) -> bool
     ranges::number_fits(n)
 }
 
-// A phase of client number who closes with the entry e; one says whether all answers of the chosen view carry it, and the WRITE
-// that closing READ sends has the number n: 3, 7, 11.
+// A phase of client number who closes with the entry e; one says whether all answers of the chosen view carry it and the view permits
+// one exchange, and the WRITE that closing READ sends has the number n: 3, 7, 11.
 pub fn close_rule(c: Client, who: u8, e: Entry, one: bool, n: MessageNumber) -> Closing
     ensures { λ r. ⌜ closing r ≡ closeRule c who e one (n .0) ⌝ }
 {

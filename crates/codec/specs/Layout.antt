@@ -34,18 +34,21 @@ entryRest = 0
 abbrev pub entryWidth : ℕ
 entryWidth = entryRestPlace + entryRest
 
--- "View: member bits u32 (bit s-1 is server s), f u8, 3 zero."
+-- "View: member bits u32 (bit s-1 is server s), f u8, 3 zero."; "a read size r in the first of its zero bytes"
 abbrev pub membersPlace : ℕ
 membersPlace = 0
 
 abbrev pub thresholdPlace : ℕ
 thresholdPlace = membersPlace + u32Width
 
+abbrev pub readSizePlace : ℕ
+readSizePlace = thresholdPlace + u8Width
+
 abbrev pub viewSparePlace : ℕ
-viewSparePlace = thresholdPlace + u8Width
+viewSparePlace = readSizePlace + u8Width
 
 abbrev pub viewSpare : ℕ
-viewSpare = 3
+viewSpare = 2
 
 abbrev pub viewWidth : ℕ
 viewWidth = viewSparePlace + viewSpare

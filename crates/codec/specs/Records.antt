@@ -23,7 +23,7 @@ use Rattle.protocol.specs.Clients.{number, requestOf, endOf, isEnding}
 use Rattle.protocol.specs.Runs.{u16At, u32At}
 use Rattle.codec.specs.Layout.{version, versionPlace, administratorPlace, administratorWidth, headerSparePlace, headerSpare, headerWidth}
 use Rattle.codec.specs.Layout.{countPlace, writerPlace, entrySparePlace, entrySpare, valuePlace, entryRestPlace, entryRest, entryWidth}
-use Rattle.codec.specs.Layout.{membersPlace, thresholdPlace, viewSparePlace, viewSpare, viewWidth, holderWidth, newestPlace, endingPlace, endPlace}
+use Rattle.codec.specs.Layout.{membersPlace, thresholdPlace, readSizePlace, viewSparePlace, viewSpare, viewWidth, holderWidth, newestPlace, endingPlace, endPlace}
 use Rattle.codec.specs.Layout.{serverViewPlace, faultyPlace, serverSparePlace, serverSpare, keysPlace, serverEntryPlace, serverWidth}
 use Rattle.codec.specs.Layout.{phasePlace, clientKindPlace, clientRequestPlace, clientEntryPlace, givenPlace, clientWidth}
 use Rattle.codec.specs.Layout.{messageKindPlace, senderPlace, messageViewPlace, takenPlace, messageRequestPlace, nextPlace, messageEntryPlace, messageWidth}
@@ -48,12 +48,12 @@ entryBytes e = le32 (countOf e) ++ (writerOf e ∷ (replicate entrySpare 0 ++ (l
 unfoldable pub entryPlain : List ℕ → Bool
 entryPlain b = zeros b entrySparePlace entrySpare && zeros b entryRestPlace entryRest
 
--- "View: member bits u32 (bit s-1 is server s), f u8, 3 zero."
+-- "View: member bits u32 (bit s-1 is server s), f u8, 3 zero."; "a read size r in the first of its zero bytes"
 unfoldable pub viewOf : List ℕ → View
-viewOf b = record { members = record { 0 = u32At b membersPlace }; f = getD b thresholdPlace 0 }
+viewOf b = record { members = record { 0 = u32At b membersPlace }; f = getD b thresholdPlace 0; r = getD b readSizePlace 0 }
 
 unfoldable pub viewBytes : View → List ℕ
-viewBytes v = le32 (v .members .0) ++ (v .f ∷ replicate viewSpare 0)
+viewBytes v = le32 (v .members .0) ++ (v .f ∷ v .r ∷ replicate viewSpare 0)
 
 unfoldable pub viewPlain : List ℕ → Bool
 viewPlain b = zeros b viewSparePlace viewSpare

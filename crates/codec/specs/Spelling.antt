@@ -16,7 +16,7 @@ use Rattle.protocol.specs.Clients.{number, requestOf, endOf, isEnding}
 use Rattle.protocol.specs.Runs.{u16At}
 use Rattle.codec.specs.Layout.{version, versionPlace, usedPlace, administratorPlace, administratorWidth, headerSparePlace, headerSpare, headerWidth}
 use Rattle.codec.specs.Layout.{countPlace, writerPlace, entrySparePlace, entrySpare, valuePlace, entryRestPlace, entryRest, entryWidth}
-use Rattle.codec.specs.Layout.{membersPlace, thresholdPlace, viewSparePlace, viewSpare, viewWidth, newestPlace, endingPlace, endPlace}
+use Rattle.codec.specs.Layout.{membersPlace, thresholdPlace, readSizePlace, viewSparePlace, viewSpare, viewWidth, newestPlace, endingPlace, endPlace}
 use Rattle.codec.specs.Layout.{serverViewPlace, faultyPlace, serverSparePlace, serverSpare, keysPlace, serverEntryPlace, serverWidth}
 use Rattle.codec.specs.Layout.{phasePlace, clientKindPlace, clientRequestPlace, clientEntryPlace, givenPlace, clientWidth}
 use Rattle.codec.specs.Layout.{messageKindPlace, senderPlace, messageViewPlace, takenPlace, messageRequestPlace, nextPlace, messageEntryPlace, messageWidth}
@@ -125,7 +125,7 @@ pub view-plain : (b : List ℕ) → length b ≡ viewWidth → Bytes b → viewP
 unfolding viewPlain viewBytes viewOf
 view-plain b e y p =
     spelled
-    (spells _ (spells _ (spells _ (spells-none b) (le32-part b membersPlace y (omega arith))) (byte-part b thresholdPlace (omega arith)))
+    (spells _ (spells _ (spells _ (spells _ (spells-none b) (le32-part b membersPlace y (omega arith))) (byte-part b thresholdPlace (omega arith))) (byte-part b readSizePlace (omega arith)))
     (zeros-part b viewSparePlace viewSpare (omega arith) p))
     e
 

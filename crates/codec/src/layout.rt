@@ -31,14 +31,16 @@ pub const ENTRY_REST: usize = 0;
 
 pub const ENTRY: usize = ENTRY_REST_AT + ENTRY_REST;
 
-// "View: member bits u32 (bit s-1 is server s), f u8, 3 zero."
+// "View: member bits u32 (bit s-1 is server s), f u8, 3 zero."; "a read size r in the first of its zero bytes"
 pub const MEMBERS_AT: usize = 0;
 
 pub const THRESHOLD_AT: usize = MEMBERS_AT + U32;
 
-pub const VIEW_SPARE_AT: usize = THRESHOLD_AT + U8;
+pub const READ_SIZE_AT: usize = THRESHOLD_AT + U8;
 
-pub const VIEW_SPARE: usize = 3;
+pub const VIEW_SPARE_AT: usize = READ_SIZE_AT + U8;
+
+pub const VIEW_SPARE: usize = 2;
 
 pub const VIEW: usize = VIEW_SPARE_AT + VIEW_SPARE;
 

@@ -44,6 +44,7 @@ use super::layout::MESSAGE_VIEW_AT;
 use super::layout::NEWEST_AT;
 use super::layout::NEXT_AT;
 use super::layout::PHASE_AT;
+use super::layout::READ_SIZE_AT;
 use super::layout::SENDER_AT;
 use super::layout::SERVER_ENTRY_AT;
 use super::layout::SERVER_SPARE;
@@ -119,7 +120,7 @@ pub fn entry_plain(b: &[u8]) -> bool
     are_zero(b, ENTRY_REST_AT, ENTRY_REST)
 }
 
-// "View: member bits u32 (bit s-1 is server s), f u8, 3 zero."
+// "View: member bits u32 (bit s-1 is server s), f u8, 3 zero."; "a read size r in the first of its zero bytes"
 pub fn read_view(b: &[u8]) -> View
     requires { ⌜ length (now b) ≡ viewWidth ⌝ }
     ensures { λ r. ⌜ r ≡ viewOf (now (b .entry)) ⌝ }
@@ -128,6 +129,7 @@ pub fn read_view(b: &[u8]) -> View
     View {
         members: ServerSet(members),
         f: b[THRESHOLD_AT],
+        r: b[READ_SIZE_AT],
     }
 }
 
@@ -138,6 +140,7 @@ pub fn write_view(image: &mut [u8], at: usize, v: View)
     let members = v.members;
     put32(image, at + MEMBERS_AT, members.0);
     put8(image, at + THRESHOLD_AT, v.f);
+    put8(image, at + READ_SIZE_AT, v.r);
     put_zeros(image, at + VIEW_SPARE_AT, VIEW_SPARE);
 }
 

@@ -20,22 +20,22 @@ use Rattle.preservation.specs.Begun.{fresh-kept}
 use Rattle.consistency.specs.Worlds.{left-spelled}
 
 -- what a fresh image that is not refused spells
-pub record Fresh (members f : ℕ) (i : List ℕ) : Type 0 where
+pub record Fresh (members f r : ℕ) (i : List ℕ) : Type 0 where
   pub world : World
-  pub from : fresh members f ≡ done world
+  pub from : fresh members f r ≡ done world
   pub spells : Spells i world
 
-pub began : (buffer : List ℕ) (members f : ℕ) → freshOn buffer members f .refusal ≡ 0 → Fresh members f (freshOn buffer members f .image)
+pub began : (buffer : List ℕ) (members f r : ℕ) → freshOn buffer members f r .refusal ≡ 0 → Fresh members f r (freshOn buffer members f r .image)
 unfolding freshOn guard
-began buffer members f e = go (eqb (length buffer) imageSize) (fresh members f) refl e
+began buffer members f r e = go (eqb (length buffer) imageSize) (fresh members f r) refl e
   where
-    go : (b : Bool) (x : Result World) → fresh members f ≡ x → outcome buffer (guard b 1 x) .refusal ≡ 0 → Fresh members f (outcome buffer (guard b 1 x) .image)
-    go true (done w) q e = record { world = w; from = q; spells = record { is = refl; formed = fresh-kept members f w q } }
-    go true (refused n) q e = absurd (let (l, u) = among-ranged 8 8 (8 ∷ []) n refl (fresh-refuses members f .numbers n q) in omega arith)
+    go : (b : Bool) (x : Result World) → fresh members f r ≡ x → outcome buffer (guard b 1 x) .refusal ≡ 0 → Fresh members f r (outcome buffer (guard b 1 x) .image)
+    go true (done w) q e = record { world = w; from = q; spells = record { is = refl; formed = fresh-kept members f r w q } }
+    go true (refused n) q e = absurd (let (l, u) = among-ranged 8 8 (8 ∷ []) n refl (fresh-refuses members f r .numbers n q) in omega arith)
     go false x q e = absurd (omega arith)
 
-pub fresh-readable : (buffer : List ℕ) (members f : ℕ) → freshOn buffer members f .refusal ≡ 0 → readable (freshOn buffer members f .image) ≡ true
-fresh-readable buffer members f e = spells-readable (began buffer members f e .spells)
+pub fresh-readable : (buffer : List ℕ) (members f r : ℕ) → freshOn buffer members f r .refusal ≡ 0 → readable (freshOn buffer members f r .image) ≡ true
+fresh-readable buffer members f r e = spells-readable (began buffer members f r e .spells)
 
 -- a step, accepted or not, leaves a readable image readable
 pub left-readable : (i b : List ℕ) → readable i ≡ true → readable (leftBy i (stepOn i b)) ≡ true

@@ -47,9 +47,9 @@ step-range i b n e = among-ranged 1 lastRefusal refusals n refl (step-numbers i 
 
 -- ---- "Fresh world: 1 ...; 8", "Premise report: 1, 2."
 
-pub fresh-numbers : (buffer : List ℕ) (members f : ℕ) → among (freshOn buffer members f .refusal) (0 ∷ 1 ∷ 8 ∷ []) ≡ true
+pub fresh-numbers : (buffer : List ℕ) (members f r : ℕ) → among (freshOn buffer members f r .refusal) (0 ∷ 1 ∷ 8 ∷ []) ≡ true
 unfolding freshOn
-fresh-numbers buffer members f = go _ (refuses-guard (1 ∷ 8 ∷ []) _ _ _ refl (refuses-more (8 ∷ []) _ _ refl (fresh-refuses members f)))
+fresh-numbers buffer members f r = go _ (refuses-guard (1 ∷ 8 ∷ []) _ _ _ refl (refuses-more (8 ∷ []) _ _ refl (fresh-refuses members f r)))
   where
     go : (x : Result World) → Refuses (1 ∷ 8 ∷ []) x → among (outcome buffer x .refusal) (0 ∷ 1 ∷ 8 ∷ []) ≡ true
     go (refused n) h = refuses-more (1 ∷ 8 ∷ []) (0 ∷ 1 ∷ 8 ∷ []) (refused n) refl h .numbers n refl
@@ -200,7 +200,8 @@ administrator-rule-refuses a rule n v =
     refuses-if _ (eqb rule 7) _ _ (refuses-more (3 ∷ 4 ∷ 8 ∷ []) _ _ refl (call-numbers _ _ _))
     (refuses-guard _ _ _ _ refl
     (refuses-guard _ _ _ _ refl
-    (refuses-guard _ _ _ _ refl (refuses-guard _ _ _ _ refl (refuses-more (3 ∷ 7 ∷ []) _ _ refl (advance-numbers _))))))
+    (refuses-guard _ _ _ _ refl
+    (refuses-guard _ _ _ _ refl (refuses-guard _ _ _ _ refl (refuses-more (3 ∷ 7 ∷ []) _ _ refl (advance-numbers _)))))))
 
 pub administrator-call-numbers : (a b : List ℕ) → Refuses (1 ∷ 3 ∷ 4 ∷ 7 ∷ 8 ∷ []) (administratorCall a b)
 unfolding administratorCall

@@ -39,40 +39,40 @@ report-holds {i} {w} h e =
     is-done e = cc
 
 -- the premise report of a run's image is no refusal: it says whether the premise holds in its world
-pub run-reported : (buffer : List ℕ) (members f : ℕ) → freshOn buffer members f .refusal ≡ 0 → (steps : List (List ℕ))
-    → premiseOn (runFrom (freshOn buffer members f .image) steps .image) ≡ done (premise (decode (runFrom (freshOn buffer members f .image) steps .image)))
+pub run-reported : (buffer : List ℕ) (members f r : ℕ) → freshOn buffer members f r .refusal ≡ 0 → (steps : List (List ℕ))
+    → premiseOn (runFrom (freshOn buffer members f r .image) steps .image) ≡ done (premise (decode (runFrom (freshOn buffer members f r .image) steps .image)))
 unfolding premiseOn guard
-run-reported buffer members f e steps =
-    let b = began buffer members f e in
+run-reported buffer members f r e steps =
+    let b = began buffer members f r e in
     let s = runFrom-same _ (b .world) steps (b .spells) in
     let h = spells-readable (s .image) in
     rw (eq-eqb _ _ (read _ h .size), h) refl
 
--- For every buffer, member bits and f that are not refused, and every list of byte strings of any length, each a step on the
+-- For every buffer, member bits, f and r that are not refused, and every list of byte strings of any length, each a step on the
 -- image that the last one left: if the premise report of the last image says that the premise holds, the operations of the run
 -- have one order in which each read returns the last write before it.
-pub linearizable-images : (buffer : List ℕ) (members f : ℕ) → freshOn buffer members f .refusal ≡ 0 → (steps : List (List ℕ))
-    → premiseOn (runFrom (freshOn buffer members f .image) steps .image) ≡ done true → Consistent (history (runFrom (freshOn buffer members f .image) steps))
-linearizable-images buffer members f e steps p =
-    let b = began buffer members f e in
+pub linearizable-images : (buffer : List ℕ) (members f r : ℕ) → freshOn buffer members f r .refusal ≡ 0 → (steps : List (List ℕ))
+    → premiseOn (runFrom (freshOn buffer members f r .image) steps .image) ≡ done true → Consistent (history (runFrom (freshOn buffer members f r .image) steps))
+linearizable-images buffer members f r e steps p =
+    let b = began buffer members f r e in
     let s = runFrom-same _ (b .world) steps (b .spells) in
-    subst Consistent (sym (history-same _ _ s)) (linearizable members f (b .world) (b .from) steps (report-holds (s .image) p))
+    subst Consistent (sym (history-same _ _ s)) (linearizable members f r (b .world) (b .from) steps (report-holds (s .image) p))
 
 -- "in a run its stamp is never given again": for every fresh image and every list of byte strings, and with no premise, two write
 -- operations of the run whose entries have one stamp are one
-pub never-again : (buffer : List ℕ) (members f : ℕ) → freshOn buffer members f .refusal ≡ 0 → (steps : List (List ℕ)) → (x y : Operation)
-    → In x (history (runFrom (freshOn buffer members f .image) steps)) → In y (history (runFrom (freshOn buffer members f .image) steps))
+pub never-again : (buffer : List ℕ) (members f r : ℕ) → freshOn buffer members f r .refusal ≡ 0 → (steps : List (List ℕ)) → (x y : Operation)
+    → In x (history (runFrom (freshOn buffer members f r .image) steps)) → In y (history (runFrom (freshOn buffer members f r .image) steps))
     → x .kind ≡ WRITES → y .kind ≡ WRITES → {e g : Entry} → x .entry ≡ some e → y .entry ≡ some g → countOf e ≡ countOf g → writerOf e ≡ writerOf g → x ≡ y
-never-again buffer members f e steps x y i j p q u v k l =
-    let b = began buffer members f e in
+never-again buffer members f r e steps x y i j p q u v k l =
+    let b = began buffer members f r e in
     let s = runFrom-same _ (b .world) steps (b .spells) in
-    once-given members f (b .world) (b .from) steps x y (rw (history-same _ _ s) at i) (rw (history-same _ _ s) at j) p q u v k l
+    once-given members f r (b .world) (b .from) steps x y (rw (history-same _ _ s) at i) (rw (history-same _ _ s) at j) p q u v k l
 
--- For every buffer, member bits and f that are not refused, and every journal of any bytes and any length: if the premise report of
+-- For every buffer, member bits, f and r that are not refused, and every journal of any bytes and any length: if the premise report of
 -- the image that its replay on the fresh image leaves says that the premise holds, so have the operations of the steps done.
-pub linearizable-journals : (buffer : List ℕ) (members f : ℕ) → freshOn buffer members f .refusal ≡ 0 → (journal : List ℕ)
-    → premiseOn (replayOn (freshOn buffer members f .image) journal .image) ≡ done true
-    → Consistent (history (runFrom (freshOn buffer members f .image) (stepsDone (freshOn buffer members f .image) journal)))
-linearizable-journals buffer members f e journal p =
-    let i : List ℕ = freshOn buffer members f .image in
-    linearizable-images buffer members f e (stepsDone i journal) (ap premiseOn (sym (replay-runs i journal (fresh-readable buffer members f e))) ∙ p)
+pub linearizable-journals : (buffer : List ℕ) (members f r : ℕ) → freshOn buffer members f r .refusal ≡ 0 → (journal : List ℕ)
+    → premiseOn (replayOn (freshOn buffer members f r .image) journal .image) ≡ done true
+    → Consistent (history (runFrom (freshOn buffer members f r .image) (stepsDone (freshOn buffer members f r .image) journal)))
+linearizable-journals buffer members f r e journal p =
+    let i : List ℕ = freshOn buffer members f r .image in
+    linearizable-images buffer members f r e (stepsDone i journal) (ap premiseOn (sym (replay-runs i journal (fresh-readable buffer members f r e))) ∙ p)

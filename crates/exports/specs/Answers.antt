@@ -8,6 +8,7 @@ use lib.ListN.{length}
 use lib.Dec.{eqb}
 use borrow.Author.Tests.{eq-eqb, ne-eqb}
 use Rattle.protocol.specs.Tools.{if, bit, within, Result, refused, done}
+use Rattle.protocol.specs.Sizes.{Both}
 use Rattle.protocol.specs.Laws.Tests.{by-test, within-true, is-within}
 use Rattle.codec.specs.Lists.{put, put-put, put-all}
 use Rattle.codec.specs.Bytes.{le32}
@@ -18,6 +19,11 @@ use Rattle.journal.specs.Watch.{Watched, watchOn}
 abbrev pub packed : Result ℕ → ℕ
 packed (refused n) = n
 packed (done k) = 256 * k
+
+-- both sizes: read size + 256 * write size
+abbrev pub sizesIn : Result Both → Result ℕ
+sizesIn (refused n) = refused n
+sizesIn (done b) = done (b .reads + 256 * b .writes)
 
 -- 1 for yes, 0 for no
 abbrev pub flagged : Result Bool → Result ℕ

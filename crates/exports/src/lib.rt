@@ -10,7 +10,7 @@ ghost use Rattle.loads.specs.Load.{loadOn};
 ghost use Rattle.judging.specs.Verdict.{judged, listedIn, operationsIn};
 ghost use Rattle.shorten.specs.Journals.{shortenOn};
 ghost use Rattle.vouch.specs.Checks.{vouchOn, thresholdOn, Leaves};
-ghost use Rattle.exports.specs.Answers.{packed, flagged, packedReplay, firstWidth, firstIn, watchLent};
+ghost use Rattle.exports.specs.Answers.{packed, sizesIn, flagged, packedReplay, firstWidth, firstIn, watchLent};
 ghost use Rattle.single.specs.Calls.{serverCall, replied, serverLeft, clientCall, completed, clientLeft, administratorCall, accepted, administratorLeft};
 use codec::bytes::put32;
 use codec::layout::U32;
@@ -45,23 +45,23 @@ use vouch::call::vouch_threshold;
 use world::Stepped;
 use world::step::step;
 
-// "Fresh world (member bits, f)": refusal.
+// "Fresh world (member bits, f)", and r: refusal.
 #[no_mangle]
-pub extern "C" fn zw_fresh(image: &mut [u8], members: u32, f: u8) -> u64
-    ensures { λ r. ⌜ (r ≡ freshOn (now (image .entry)) members f .refusal) × (now (image .exit) ≡ freshOn (now (image .entry)) members f .image) ⌝ }
+pub extern "C" fn zw_fresh(image: &mut [u8], members: u32, f: u8, r: u8) -> u64
+    ensures { λ x. ⌜ (x ≡ freshOn (now (image .entry)) members f r .refusal) × (now (image .exit) ≡ freshOn (now (image .entry)) members f r .image) ⌝ }
 {
-    fresh(image, members, f) as u64
+    fresh(image, members, f, r) as u64
 }
 
-// "Quorum size (n, f)": refusal, size.
+// "Quorum size takes r and returns both": refusal, read size + 256 * write size.
 #[no_mangle]
-pub extern "C" fn zw_quorum(n: u32, f: u32) -> u64
-    ensures { λ r. ⌜ r ≡ packed (quorumSize n f) ⌝ }
+pub extern "C" fn zw_quorum(n: u32, f: u32, r: u32) -> u64
+    ensures { λ x. ⌜ x ≡ packed (sizesIn (quorumSize n f r)) ⌝ }
 {
-    let size = quorum_size(n, f);
+    let size = quorum_size(n, f, r);
     match size {
         QuorumSize::SizeRefused(x) => x as u64,
-        QuorumSize::Size(q) => 256 * (q as u64),
+        QuorumSize::Size(reads, writes) => 256 * (reads as u64 + 256 * (writes as u64)),
     }
 }
 
@@ -185,12 +185,13 @@ pub extern "C" fn zw_shorten(
     image: &mut [u8],
     members: u32,
     f: u8,
+    r: u8,
     journal: &[u8],
     shorter: &mut [u8],
 ) -> u64
-    ensures { λ r. ⌜ (r ≡ packed (shortenOn (now (image .entry)) members f (now (journal .entry)) (now (shorter .entry)) .answer)) × (now (image .exit) ≡ shortenOn (now (image .entry)) members f (now (journal .entry)) (now (shorter .entry)) .image) × (now (shorter .exit) ≡ shortenOn (now (image .entry)) members f (now (journal .entry)) (now (shorter .entry)) .shorter) ⌝ }
+    ensures { λ x. ⌜ (x ≡ packed (shortenOn (now (image .entry)) members f r (now (journal .entry)) (now (shorter .entry)) .answer)) × (now (image .exit) ≡ shortenOn (now (image .entry)) members f r (now (journal .entry)) (now (shorter .entry)) .image) × (now (shorter .exit) ≡ shortenOn (now (image .entry)) members f r (now (journal .entry)) (now (shorter .entry)) .shorter) ⌝ }
 {
-    let answer = shorten(image, members, f, journal, shorter);
+    let answer = shorten(image, members, f, r, journal, shorter);
     match answer {
         Shortened::ShortenRefused(x) => x as u64,
         Shortened::ShortenDone(k) => 256 * (k as u64),

@@ -1,7 +1,7 @@
 -- Check 3 by the row of its kind, in two halves, as the code tests it: `placesFit`, `numbersFit`; that both are the check, `known-row`;
 -- a kind outside the table, `unknown-low`, `unknown-high`. Used by the proofs of this crate alone. Assumes nothing.
 use Prim.Native.Nat.{ℕ, _≤_, _<_}
-use mathlib.Core.Bool.{Bool, true, false, _&&_}
+use mathlib.Core.Bool.{Bool, true, false, _&&_, _||_}
 use mathlib.Core.Path.{_≡_, refl, sym, ap, _∙_}
 use lib.Dec.{leb, eqb}
 use lib.ListN.{List·getD-eq-default}
@@ -9,7 +9,7 @@ use borrow.Author.Tests.{le-leb, lt-leb}
 use Rattle.protocol.specs.declared.Step.{Step}
 use Rattle.protocol.specs.declared.Range.{Range}
 use Rattle.protocol.specs.Steps.{writeStep, giveUpStep, CLIENT, SERVER, VIEW, F, MESSAGE, SOURCE, VALUE, fieldTable, rowOf, inRow, field, fieldsFit}
-use Rattle.protocol.specs.Steps.{clientRange, serverRange, viewRange, thresholdRange, messageRange, sourceRange, valueRange, whoUsed, whoRange}
+use Rattle.protocol.specs.Steps.{clientRange, serverRange, viewRange, thresholdRange, readRange, messageRange, sourceRange, valueRange, whoUsed, whoRange}
 
 -- who, view and f; message, source and value
 abbrev pub placesFit : ℕ → Step → Bool
@@ -36,19 +36,24 @@ pub no-row : (kind : ℕ) → giveUpStep < kind → 0 ≡ rowOf kind
 unfolding rowOf
 no-row kind h = sym (List·getD-eq-default fieldTable 0 {n = kind} h)
 
--- who, by the two tests of a row
+-- who, by the tests of a row
+module _ (a : Bool) where
+  pub first-holds : (x y : Bool) → a ≡ x → a ≡ true → true ≡ x || y
+  first-holds x y p e = rw (sym p ∙ e) refl
+
+  pub second-decides : (b x y : Bool) → a ≡ x → a ≡ false → b ≡ y → b ≡ x || y
+  second-decides b x y p e q = rw (sym p ∙ e) q
+
 module _ (row : ℕ) (a : Bool) (p : a ≡ inRow row CLIENT) where
-  pub used-first : a ≡ true → true ≡ whoUsed row
-  used-first e = rw (sym p ∙ e) refl
-
-  pub used-second : (b : Bool) → a ≡ false → b ≡ inRow row SERVER → b ≡ whoUsed row
-  used-second b e q = rw (sym p ∙ e) q
-
   pub range-first : a ≡ true → clientRange ≡ whoRange row
   range-first e = rw (sym p ∙ e) refl
 
-  pub range-second : a ≡ false → serverRange ≡ whoRange row
-  range-second e = rw (sym p ∙ e) refl
+  module _ (b : Bool) (e : a ≡ false) (q : b ≡ inRow row SERVER) where
+    pub range-second : b ≡ true → serverRange ≡ whoRange row
+    range-second f = rw (sym p ∙ e, sym q ∙ f) refl
+
+    pub range-third : b ≡ false → readRange ≡ whoRange row
+    range-third f = rw (sym p ∙ e, sym q ∙ f) refl
 
 -- a kind before the first or after the last
 pub unknown-low : (st : Step) → st .kind < writeStep → false ≡ fieldsFit st

@@ -1,7 +1,7 @@
 // The table of fields: a row of flags for each kind of step, and the range of each field.
 ghost use mathlib.Core.Path.{_≡_};
 ghost use Prim.Native.Nat.{_<_};
-ghost use Rattle.protocol.specs.Steps.{rowOf, inRow, whoUsed, whoRange};
+ghost use Rattle.protocol.specs.Steps.{rowOf, inRow, whoNamed, whoUsed, whoRange};
 use protocol::Range;
 use protocol::kinds::GIVE_UP_STEP;
 use protocol::limits::CLIENTS;
@@ -9,7 +9,7 @@ use protocol::limits::MESSAGES;
 use protocol::limits::SERVERS;
 use protocol::limits::VIEWS;
 
-// A flag for each field that a step may use; who is a client or a server.
+// A flag for each field that a step may use; who is a client, a server or a read size.
 pub const CLIENT: u8 = 1;
 
 pub const SERVER: u8 = 2;
@@ -24,6 +24,8 @@ pub const SOURCE: u8 = 32;
 
 pub const VALUE: u8 = 64;
 
+pub const SIZE: u8 = 128;
+
 // The fields of each kind: write, read, deliver, take, fault, false answer, new view, giving up.
 const FIELDS: [u8; 9] = [
     0,
@@ -33,7 +35,7 @@ const FIELDS: [u8; 9] = [
     MESSAGE,
     SERVER,
     SERVER + VIEW + MESSAGE + SOURCE,
-    F + VALUE,
+    SIZE + F + VALUE,
     CLIENT,
 ];
 
@@ -54,6 +56,9 @@ pub const VIEW_RANGE: Range = Range {
 };
 
 pub const THRESHOLD_RANGE: Range = Range { low: 0, high: 255 };
+
+// Any read size: 8 judges it.
+pub const READ_RANGE: Range = Range { low: 0, high: 255 };
 
 pub const MESSAGE_RANGE: Range = Range {
     low: 1,
@@ -88,14 +93,24 @@ pub fn uses(row: u8, flag: u8) -> bool
     row / flag % 2 == 1
 }
 
-// who is a client, a server or unused.
-pub fn who_used(row: u8) -> bool
-    ensures { λ r. ⌜ r ≡ whoUsed row ⌝ }
+// who is the number of a client or of a server.
+pub fn who_named(row: u8) -> bool
+    ensures { λ r. ⌜ r ≡ whoNamed row ⌝ }
 {
     if uses(row, CLIENT) {
         return true;
     }
     uses(row, SERVER)
+}
+
+// It is that, a read size or unused.
+pub fn who_used(row: u8) -> bool
+    ensures { λ r. ⌜ r ≡ whoUsed row ⌝ }
+{
+    if who_named(row) {
+        return true;
+    }
+    uses(row, SIZE)
 }
 
 pub fn who_range(row: u8) -> Range
@@ -104,5 +119,8 @@ pub fn who_range(row: u8) -> Range
     if uses(row, CLIENT) {
         return CLIENT_RANGE;
     }
-    SERVER_RANGE
+    if uses(row, SERVER) {
+        return SERVER_RANGE;
+    }
+    READ_RANGE
 }

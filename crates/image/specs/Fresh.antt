@@ -36,9 +36,9 @@ abbrev pub outcome : List ℕ → Result World → Outcome
 outcome i (refused n) = record { refusal = n; image = i }
 outcome i (done w) = record { refusal = 0; image = encode w }
 
--- "Fresh world (member bits, f): 1, buffer not" an image's length "; 8, size rule broken." A refusal leaves the buffer as it was.
-unfoldable pub freshOn : List ℕ → ℕ → ℕ → Outcome
-freshOn i bits f = outcome i (guard (eqb (length i) imageSize) 1 (fresh bits f))
+-- "Fresh world (member bits, f)", and r: "1, buffer not" an image's length "; 8, size rule broken." A refusal leaves the buffer as it was.
+unfoldable pub freshOn : List ℕ → ℕ → ℕ → ℕ → Outcome
+freshOn i bits f r = outcome i (guard (eqb (length i) imageSize) 1 (fresh bits f r))
 
 -- a correct server with the empty entry
 abbrev pub idleServer : ℕ → ℕ → Server

@@ -25,7 +25,7 @@ use Rattle.protocol.specs.Servers.{READ, WRITE, END, ANSWER, isRequest}
 use Rattle.protocol.specs.Clients.{WRITES, READS, requestOf, endOf}
 use Rattle.protocol.specs.Worlds.{World, view, server, client, message, newest, present}
 use Rattle.protocol.specs.Chains.{chain}
-use Rattle.protocol.specs.Readable.{isSent, endingFits, lastView, viewFits, serverFits, phaseFits, clientRange, clientFits, sentFits, zeroMessage, messageFits, takenAnswer, chainFits, wellFormed}
+use Rattle.protocol.specs.Readable.{isSent, endingFits, lastView, zeroView, viewFits, serverFits, phaseFits, clientRange, clientFits, sentFits, zeroMessage, messageFits, takenAnswer, chainFits, wellFormed}
 use Rattle.codec.specs.Layout.{imageSize}
 use Rattle.codec.specs.Records.{EntryFits, ViewFits, ServerFits, ClientFits, MessageFits}
 use Rattle.codec.specs.Images.{encode, decode}
@@ -128,11 +128,11 @@ unfolding viewFits sized
 view-below w t e =
     by-test (leb t (lastView w))
     (λ q.
-    let f = sym (if-true (leb t (lastView w)) (ltb (view w t .members .0) (2 ^ 32) && sizeRule (size (view w t)) (view w t .f)) (eqb (view w t .members .0) 0 && eqb (view w t .f) 0) q) ∙ e in
-    record { members = ltb-true (view w t .members .0) (2 ^ 32) (both (ltb (view w t .members .0) (2 ^ 32)) (sizeRule (size (view w t)) (view w t .f)) f .0) })
+    let f = sym (if-true (leb t (lastView w)) (ltb (view w t .members .0) (2 ^ 32) && sizeRule (size (view w t)) (view w t .f) (view w t .r)) (zeroView (view w t)) q) ∙ e in
+    record { members = ltb-true (view w t .members .0) (2 ^ 32) (both (ltb (view w t .members .0) (2 ^ 32)) (sizeRule (size (view w t)) (view w t .f) (view w t .r)) f .0) })
     (λ q.
-    let f = sym (if-false (leb t (lastView w)) (ltb (view w t .members .0) (2 ^ 32) && sizeRule (size (view w t)) (view w t .f)) (eqb (view w t .members .0) 0 && eqb (view w t .f) 0) q) ∙ e in
-    let z = eqb-true (view w t .members .0) 0 (both (eqb (view w t .members .0) 0) (eqb (view w t .f) 0) f .0) in
+    let f = sym (if-false (leb t (lastView w)) (ltb (view w t .members .0) (2 ^ 32) && sizeRule (size (view w t)) (view w t .f) (view w t .r)) (zeroView (view w t)) q) ∙ e in
+    let z = eqb-true (view w t .members .0) 0 (both (eqb (view w t .members .0) 0) (eqb (view w t .f) 0 && eqb (view w t .r) 0) f .0) in
     record { members = omega arith })
 
 server-below : (w : World) → newest w ≤ views → (s : ℕ) → serverFits w s ≡ true → ServerFits (server w s)

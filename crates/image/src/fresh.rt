@@ -88,9 +88,9 @@ fn store_fresh(image: &mut [u8], v: View)
     store_servers(image, members);
 }
 
-// "Fresh world (member bits, f): 1, buffer not" an image's length "; 8, size rule broken."
-pub fn fresh(image: &mut [u8], members: u32, f: u8) -> u8
-    ensures { λ r. ⌜ (r ≡ freshOn (now (image .entry)) members f .refusal) × (now (image .exit) ≡ freshOn (now (image .entry)) members f .image) ⌝ }
+// "Fresh world (member bits, f)", and r: "1, buffer not" an image's length "; 8, size rule broken."
+pub fn fresh(image: &mut [u8], members: u32, f: u8, r: u8) -> u8
+    ensures { λ x. ⌜ (x ≡ freshOn (now (image .entry)) members f r .refusal) × (now (image .exit) ≡ freshOn (now (image .entry)) members f r .image) ⌝ }
 {
     if image.len() != IMAGE {
         return WRONG_LENGTH;
@@ -98,6 +98,7 @@ pub fn fresh(image: &mut [u8], members: u32, f: u8) -> u8
     let v = View {
         members: ServerSet(members),
         f: f,
+        r: r,
     };
     if !sized(v) {
         return WRONG_SIZE;

@@ -15,8 +15,8 @@ use Rattle.protocol.specs.declared.Step.{Step}
 use Rattle.protocol.specs.declared.Range.{Range}
 use Rattle.protocol.specs.Tools.{if}
 use Rattle.protocol.specs.Clients.{number}
-use Rattle.protocol.specs.Steps.{writeStep, giveUpStep, CLIENT, VIEW, F, MESSAGE, SOURCE, VALUE, rowOf, inRow, field, lastByte}
-use Rattle.protocol.specs.Steps.{range, clientRange, serverRange, viewRange, messageRange, sourceRange, valueRange, whoUsed, whoRange}
+use Rattle.protocol.specs.Steps.{writeStep, giveUpStep, CLIENT, SERVER, VIEW, F, MESSAGE, SOURCE, VALUE, rowOf, inRow, field, lastByte}
+use Rattle.protocol.specs.Steps.{range, clientRange, serverRange, readRange, viewRange, messageRange, sourceRange, valueRange, whoNamed, whoRange}
 use Rattle.loads.specs.declared.Drawn.{Drawn}
 use Rattle.loads.specs.declared.DrawnByte.{DrawnByte}
 use Rattle.loads.specs.declared.DrawnHalf.{DrawnHalf}
@@ -59,10 +59,11 @@ loadKinds = range writeStep giveUpStep
 abbrev pub loadThresholds : Range
 loadThresholds = range 0 3
 
--- "in the step's order, kind (1 to 8) first": then who, view and f
+-- "in the step's order, kind (1 to 8) first": then who, view and f; a new view's who is its read size, "where request 2's load puts 0
+-- without a draw"
 unfoldable pub drawnPlaces : ℕ → ℕ → DrawnPlaces
 drawnPlaces row state =
-    let who : Drawn = drawn (whoUsed row) (whoRange row) state in
+    let who : Drawn = drawn (whoNamed row) (whoRange row) state in
     let view : Drawn = drawn (inRow row VIEW) viewRange (who .state) in
     let f : Drawn = drawn (inRow row F) loadThresholds (view .state) in
     record { who = who .value; view = view .value; f = f .value; state = f .state }
@@ -143,19 +144,13 @@ module _ (used : Bool) (r : Range) (state : ℕ) (d : Drawn) (e : d ≡ drawn us
   half-fits h = rw e (record { fits = omega (arith, drawn-high used r state (h .0)) })
 
 -- the numbers of a client and of a server are bytes
-pub who-low : (row : ℕ) → whoRange row .low ≤ whoRange row .high
-who-low row = go (inRow row CLIENT)
-  where
-    go : (b : Bool) → if b clientRange serverRange .low ≤ if b clientRange serverRange .high
-    go true = omega arith
-    go false = omega arith
-
 pub who-byte : (row : ℕ) (r : Range) → r ≡ whoRange row → (r .low ≤ r .high) × (r .high ≤ lastByte)
-who-byte row r e = rw e (go (inRow row CLIENT))
+who-byte row r e = rw e (go (inRow row CLIENT) (inRow row SERVER))
   where
-    go : (b : Bool) → (if b clientRange serverRange .low ≤ if b clientRange serverRange .high) × (if b clientRange serverRange .high ≤ lastByte)
-    go true = (omega arith, omega arith)
-    go false = (omega arith, omega arith)
+    go : (a b : Bool) → (if a clientRange (if b serverRange readRange) .low ≤ if a clientRange (if b serverRange readRange) .high) × (if a clientRange (if b serverRange readRange) .high ≤ lastByte)
+    go true b = (omega arith, omega arith)
+    go false true = (omega arith, omega arith)
+    go false false = (omega arith, omega arith)
 
 -- the ways out of the code
 pub start-zero : (seed : ℕ) → seed ≡ 0 → 1 ≡ start seed
@@ -194,7 +189,7 @@ abbrev pub HalfOf : DrawnHalf → Drawn → Type 0
 HalfOf b d = (b .value ≡ d .value) × (b .state ≡ d .state)
 
 pub places-made : (row s : ℕ) (who view f : DrawnByte) (r : Range) (a b c : Bool)
-    → a ≡ whoUsed row → r ≡ whoRange row → ByteOf who (drawn a r s)
+    → a ≡ whoNamed row → r ≡ whoRange row → ByteOf who (drawn a r s)
     → b ≡ inRow row VIEW → ByteOf view (drawn b viewRange (who .state))
     → c ≡ inRow row F → ByteOf f (drawn c loadThresholds (view .state))
     → record { who = who .value; view = view .value; f = f .value; state = f .state } ≡ drawnPlaces row s

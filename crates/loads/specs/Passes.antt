@@ -3,7 +3,7 @@
 use Prim.Native.Nat.{ℕ, zero, suc, _+_, _*_, _/_, _%_, _^_, _≤_, _<_}
 use native.Mathlib.Nat.{not-suc-le-zero, le-of-eq}
 use native.Mathlib.Omega.{arith}
-use mathlib.Core.Bool.{Bool, true, false}
+use mathlib.Core.Bool.{Bool, true, false, _||_}
 use mathlib.Core.Logic.{_⊎_, inl, inr}
 use mathlib.Core.Path.{_≡_, refl, sym, ap, _∙_}
 use mathlib.Core.List.{List, _++_}
@@ -14,14 +14,15 @@ use Rattle.protocol.specs.declared.Step.{Step}
 use Rattle.protocol.specs.declared.Range.{Range}
 use Rattle.protocol.specs.Laws.Tests.{within-true, last-or}
 use Rattle.protocol.specs.Laws.Kinds.{Fitting, fits}
-use Rattle.protocol.specs.Steps.{writeStep, giveUpStep, VIEW, F, MESSAGE, SOURCE, VALUE, rowOf, inRow, field, fieldsFit, lastWord}
-use Rattle.protocol.specs.Steps.{range, viewRange, thresholdRange, messageRange, sourceRange, valueRange, whoUsed, whoRange}
+use Rattle.protocol.specs.Steps.{writeStep, giveUpStep, CLIENT, SERVER, SIZE, VIEW, F, MESSAGE, SOURCE, VALUE, rowOf, inRow, field, fieldsFit, lastWord}
+use Rattle.protocol.specs.Steps.{range, viewRange, thresholdRange, messageRange, sourceRange, valueRange, clientRange, serverRange, readRange, whoNamed, whoUsed, whoRange}
+use Rattle.protocol.specs.Tools.{if}
 use Rattle.protocol.specs.Sizes.{messages}
 use Rattle.protocol.specs.Runs.{stepWidth, stepOf}
 use Rattle.loads.specs.declared.Drawn.{Drawn}
 use Rattle.loads.specs.declared.DrawnPlaces.{DrawnPlaces}
 use Rattle.loads.specs.declared.DrawnNumbers.{DrawnNumbers}
-use Rattle.loads.specs.Draws.{start, drawn, loadKinds, loadThresholds, drawnPlaces, drawnNumbers, drawnStep, drawn-fits, drawn-high, who-low}
+use Rattle.loads.specs.Draws.{start, drawn, loadKinds, loadThresholds, drawnPlaces, drawnNumbers, drawnStep, drawn-fits, drawn-high}
 use Rattle.loads.specs.Load.{spelled, longer, loadFrom, journalOf, length-spelled, length-load}
 
 -- a field of a narrower range fits the wider one
@@ -29,12 +30,23 @@ wider : (used : Bool) (r q : Range) (x : ℕ) → q .low ≤ r .low → r .high 
 wider true r q x l h e = let (a, b) = within-true (r .low) (r .high) x e in rw (le-leb (q .low) x (omega arith), le-leb x (q .high) (omega arith)) refl
 wider false r q x l h e = e
 
+-- who is drawn where it is a client or a server, and 0 is a read size
+who-fits : (row state : ℕ) → field (whoUsed row) (whoRange row) (drawn (whoNamed row) (whoRange row) state .value) ≡ true
+unfolding drawn
+who-fits row state = go (inRow row CLIENT) (inRow row SERVER) (inRow row SIZE)
+  where
+    go : (a b c : Bool) → field ((a || b) || c) (if a clientRange (if b serverRange readRange)) (drawn (a || b) (if a clientRange (if b serverRange readRange)) state .value) ≡ true
+    go true b c = drawn-fits true clientRange state (omega arith)
+    go false true c = drawn-fits true serverRange state (omega arith)
+    go false false true = refl
+    go false false false = refl
+
 pub step-passes : (state : ℕ) → fieldsFit (drawnStep state .step) ≡ true
 unfolding drawnStep drawnPlaces drawnNumbers
 step-passes state =
     let kind : Drawn = drawn true loadKinds state in
     let row : ℕ = rowOf (kind .value) in
-    let who : Drawn = drawn (whoUsed row) (whoRange row) (kind .state) in
+    let who : Drawn = drawn (whoNamed row) (whoRange row) (kind .state) in
     let view : Drawn = drawn (inRow row VIEW) viewRange (who .state) in
     let f : Drawn = drawn (inRow row F) loadThresholds (view .state) in
     let message : Drawn = drawn (inRow row MESSAGE) messageRange (f .state) in
@@ -42,7 +54,7 @@ step-passes state =
     fits (drawnStep state .step)
     (record {
       kind = wider true loadKinds (range writeStep giveUpStep) (kind .value) (omega arith) (omega arith) (drawn-fits true loadKinds state (omega arith));
-      who = drawn-fits (whoUsed row) (whoRange row) (kind .state) (who-low row);
+      who = who-fits row (kind .state);
       view = drawn-fits (inRow row VIEW) viewRange (who .state) (omega arith);
       f = wider (inRow row F) loadThresholds thresholdRange (f .value) (omega arith) (omega arith) (drawn-fits (inRow row F) loadThresholds (view .state) (omega arith));
       message = drawn-fits (inRow row MESSAGE) messageRange (f .state) (omega arith);

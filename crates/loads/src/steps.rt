@@ -18,8 +18,8 @@ use fields::table::VIEW;
 use fields::table::VIEW_RANGE;
 use fields::table::row_of;
 use fields::table::uses;
+use fields::table::who_named;
 use fields::table::who_range;
-use fields::table::who_used;
 use protocol::MessageNumber;
 use protocol::Range;
 use protocol::Step;
@@ -36,11 +36,11 @@ const KINDS: Range = Range {
 // "A new view's f is the remainder by 4."
 const THRESHOLDS: Range = Range { low: 0, high: 3 };
 
-// who, view and f, by the row of the kind.
+// who, view and f, by the row of the kind; a read size is 0 "without a draw".
 fn drawn_places(row: u8, state: u32) -> DrawnPlaces
     ensures { λ r. ⌜ r ≡ drawnPlaces row state ⌝ }
 {
-    let who = drawn_byte(who_used(row), who_range(row), state);
+    let who = drawn_byte(who_named(row), who_range(row), state);
     let view = drawn_byte(uses(row, VIEW), VIEW_RANGE, who.state);
     let f = drawn_byte(uses(row, F), THRESHOLDS, view.state);
     DrawnPlaces {

@@ -74,11 +74,11 @@ is-done : {A : Type 0} {x y : A} → done x ≡ done y → x ≡ y
 is-done e = cc
 
 -- A fresh world that is not refused is readable.
-pub fresh-kept : (members f : ℕ) (w : World) → fresh members f ≡ done w → wellFormed w ≡ true
+pub fresh-kept : (members f r : ℕ) (w : World) → fresh members f r ≡ done w → wellFormed w ≡ true
 unfolding fresh
-fresh-kept members f w e =
+fresh-kept members f r w e =
     let (z, d) = passed _ _ _ _ e in
-    subst (λ (x : World). wellFormed x ≡ true) (is-done d) (well-formed _ (fresh-formed (viewWith members f) z))
+    subst (λ (x : World). wellFormed x ≡ true) (is-done d) (well-formed _ (fresh-formed (viewWith members f r) z))
 
 -- So is what any bytes for a step leave.
 pub left-kept : (w : World) → wellFormed w ≡ true → (b : List ℕ) → wellFormed (left w (stepBytes w b)) ≡ true

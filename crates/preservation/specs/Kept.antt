@@ -30,8 +30,8 @@ use Rattle.protocol.specs.Entries.{entry, empty, countOf, writerOf, larger, cho
 use Rattle.protocol.specs.Servers.{READ, WRITE, END, START, ANSWER, isRequest, Reply, comparing, replacing, withoutKey, joining, gathering, mayAnswer}
 use Rattle.protocol.specs.Clients.{NONE, WRITES, READS, number, begin, closeSize, nextCount, toWrite, givenBy, countLeft, giveUp, Close, writeNext, completeWith, once, closeBy, close, isEnding, endOf, requestOf, call, advance}
 use Rattle.protocol.specs.Worlds.{World, view, server, client, message, newest, member, present, room, withServer, withClient, withView, withMessage, withAdministrator, send, nextNumber}
-use Rattle.protocol.specs.Chains.{chain, tagged, enough, shown, agreed}
-use Rattle.protocol.specs.Steps.{After, moved, request, answer, answers, begins, deliver, link, open?, takenWith, closes, starts, takes, take, fault, source?, lie, newView, givesUp, writeStep, readStep, deliverStep, faultStep, falseStep, giveUpStep, rowOf, viewAsked, step}
+use Rattle.protocol.specs.Chains.{chain, tagged, enough, shown}
+use Rattle.protocol.specs.Steps.{After, moved, request, answer, answers, begins, deliver, link, open?, takenWith, atOnce, closes, starts, takes, take, fault, source?, lie, newView, givesUp, writeStep, readStep, deliverStep, faultStep, falseStep, giveUpStep, rowOf, viewAsked, step}
 use Rattle.protocol.specs.Readable.{isSent, serverFits, phaseFits, clientRange, clientFits, senderFits, tagRule, requestFits, nextFits, entryZero, sentFits, takenAnswer, wellFormed}
 use Rattle.protocol.specs.Laws.Tests.{and-left, and-right, and-both, clash, within-true, went, is-within}
 use Rattle.protocol.specs.Laws.Entries.{larger-one, Listed, head, tail, chosen-one}
@@ -537,13 +537,13 @@ module _ {w : World} (h : Formed w) {k r : ℕ} (u : Untaken w k r) where
           below : {x : ℕ} → (x ≡ END → ⊥) → x ≤ END → x ≤ WRITE
           below f l = omega arith
 
-      closing : IsClient (message w r .sender) → (b : Bool) → if b (closes w k (message w r .sender) (chosen (shown w t (takenWith w k))) (agreed w t (takenWith w k))) (moved (link w k)) ≡ done a → Formed (a .world)
+      closing : IsClient (message w r .sender) → (b : Bool) → if b (closes w k (message w r .sender) (chosen (shown w t (takenWith w k))) (atOnce w t (takenWith w k))) (moved (link w k)) ≡ done a → Formed (a .world)
       closing i true e = closes-kept (message w r .sender) i t _ a e
       closing i false e = stays e
 
       go : (b : Bool) → eqb (message w r .kind) END ≡ b → if b (eqb (endOf (w .administrator .ending)) r) (eqb (requestOf (client w (message w r .sender) .phase)) r) ≡ true
           → if b (if (eqb t (newest w) && enough w t (takenWith w k) (writeSize (view w t))) (starts w k (chosen (shown w t (takenWith w k)))) (moved (link w k)))
-          (if (enough w t (takenWith w k) (closeSize (client w (message w r .sender) .phase) (view w t))) (closes w k (message w r .sender) (chosen (shown w t (takenWith w k))) (agreed w t (takenWith w k))) (moved (link w k))) ≡ done a
+          (if (enough w t (takenWith w k) (closeSize (client w (message w r .sender) .phase) (view w t))) (closes w k (message w r .sender) (chosen (shown w t (takenWith w k))) (atOnce w t (takenWith w k))) (moved (link w k))) ≡ done a
           → Formed (a .world)
       go true b o e = finishing (eqb-true _ _ o) (eqb t (newest w) && enough w t (takenWith w k) (writeSize (view w t))) e
       go false b o e = closing (who b) (enough w t (takenWith w k) (closeSize (client w (message w r .sender) .phase) (view w t))) e

@@ -29,7 +29,7 @@ use Rattle.protocol.specs.Clients.{number, advance}
 use Rattle.protocol.specs.Worlds.{World, noMessage, view, server, client, message, newest, present, withServer, withClient, withView, withMessage, withAdministrator, send}
 use Rattle.protocol.specs.Chains.{follow, chain}
 use Rattle.protocol.specs.Steps.{link}
-use Rattle.protocol.specs.Readable.{isSent, endingFits, lastView, viewFits, serverFits, phaseFits, clientRange, clientFits, tagRule, requestFits, nextFits, entryZero, senderFits, sentFits, zeroMessage, messageFits, takenAnswer, distinct}
+use Rattle.protocol.specs.Readable.{isSent, endingFits, lastView, zeroView, viewFits, serverFits, phaseFits, clientRange, clientFits, tagRule, requestFits, nextFits, entryZero, senderFits, sentFits, zeroMessage, messageFits, takenAnswer, distinct}
 use Rattle.protocol.specs.Laws.Tests.{and-left, and-right, and-both, clash, within-true}
 use Rattle.protocol.specs.Laws.Worlds.{content, sent, length-replace, message-new, sent-send, sent-link, server-same, server-other, client-same, client-other, view-same, view-other}
 use Rattle.protocol.specs.Laws.Sound.{link-count, link-used}
@@ -443,14 +443,11 @@ unfolding withView withAdministrator
 ending-called w a t v = refl
 
 -- the clause of a view
-abbrev isZero : View → Bool
-isZero v = eqb (v .members .0) 0 && eqb (v .f) 0
-
-pub is-view : (w : World) (t : ℕ) → (t ≤ lastView w → sized (view w t) ≡ true) → (lastView w < t → isZero (view w t) ≡ true) → viewFits w t ≡ true
+pub is-view : (w : World) (t : ℕ) → (t ≤ lastView w → sized (view w t) ≡ true) → (lastView w < t → zeroView (view w t) ≡ true) → viewFits w t ≡ true
 unfolding viewFits
 is-view w t f g = go (decLe t (lastView w))
   where
-    go : Dec (t ≤ lastView w) → if (leb t (lastView w)) (sized (view w t)) (isZero (view w t)) ≡ true
+    go : Dec (t ≤ lastView w) → if (leb t (lastView w)) (sized (view w t)) (zeroView (view w t)) ≡ true
     go (yes h) = rw (le-leb t (lastView w) h) (f h)
     go (no h) = let l : lastView w < t = omega arith in rw (lt-leb t (lastView w) l) (g l)
 
@@ -458,7 +455,7 @@ view-sized : (w : World) (t : ℕ) → viewFits w t ≡ true → t ≤ lastView 
 unfolding viewFits
 view-sized w t e h = rw (le-leb t (lastView w) h) at e
 
-view-zero : (w : World) (t : ℕ) → viewFits w t ≡ true → lastView w < t → isZero (view w t) ≡ true
+view-zero : (w : World) (t : ℕ) → viewFits w t ≡ true → lastView w < t → zeroView (view w t) ≡ true
 unfolding viewFits
 view-zero w t e h = rw (lt-leb t (lastView w) h) at e
 

@@ -14,4 +14,5 @@ pub mod Refuted
 pub mod Runs
 pub mod Sessions
 pub mod Exchanges
+pub mod TwoSizes
 pub mod Laws

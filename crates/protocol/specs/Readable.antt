@@ -41,9 +41,12 @@ lastOf a = a .newest .0 + bit (isEnding (a .ending))
 unfoldable pub lastView : World → ℕ
 lastView w = lastOf (w .administrator)
 
+abbrev pub zeroView : View → Bool
+zeroView v = eqb (v .members .0) 0 && (eqb (v .f) 0 && eqb (v .r) 0)
+
 -- "views obey the size rule"
 abbrev pub viewRule : ℕ → ℕ → View → Bool
-viewRule last t v = if (leb t last) (sized v) (eqb (v .members .0) 0 && eqb (v .f) 0)
+viewRule last t v = if (leb t last) (sized v) (zeroView v)
 
 unfoldable pub viewFits : World → ℕ → Bool
 viewFits w t = viewRule (lastView w) t (view w t)

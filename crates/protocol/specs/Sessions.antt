@@ -6,7 +6,7 @@ use mathlib.Core.Path.{_≡_, refl}
 use mathlib.Core.List.{List, [], _∷_, _++_}
 use Rattle.protocol.specs.Types.{Entry, Idle, Reading, Writing}
 use Rattle.protocol.specs.Tools.{countTo, allTo, any, holds, bitOf, nth, replace, done, guard, all}
-use Rattle.protocol.specs.Sizes.{viewWith, quorum, size, sized, readSize, writeSize}
+use Rattle.protocol.specs.Sizes.{viewWith, quorum, size, sized, readSize, writeSize, oneExchange}
 use Rattle.protocol.specs.Entries.{entry, empty, below, larger, largest, chosen, same}
 use Rattle.protocol.specs.Servers.{WRITE, comparing, replacing, withoutKey, joining, gathering, serve, mayAnswer}
 use Rattle.protocol.specs.Clients.{WRITES, READS, number, begin, giveUp, nextCount, toWrite, givenBy, countLeft, close, call, advance}
@@ -46,14 +46,14 @@ new-view bits f = bytes 7 0 0 f 0 0 bits
 abbrev pub give-up : ℕ → List ℕ
 give-up c = bytes 8 c 0 0 0 0 0
 
--- ---- what is computed of a run from the fresh world of given members and f
+-- ---- what is computed of a run from the fresh world of given members and f, with one size for all
 
 abbrev pub begun : ℕ → ℕ → World
-begun bits f = freshWorld (viewWith bits f)
+begun bits f = freshWorld (viewWith bits f 0)
 
 -- the run; whoever unfolds it unfolds all that a step computes with
 unfoldable pub run-of : ℕ → ℕ → List (List ℕ) → Run
-unfolding freshWorld listTo runFrom run tracked stepOf stepBytes step perform guard rowOf fieldsFit begins begin givesUp giveUp deliver serve comparing replacing withoutKey joining gathering take takes link open? closes close nextCount toWrite givenBy countLeft starts advance fault source? lie mayAnswer newView call enough heard shown agreed all same chain follow below larger largest quorum size sized readSize writeSize countTo any holds bitOf nth replace view server client message member present room withServer withClient withView withMessage withAdministrator send
+unfolding freshWorld listTo runFrom run tracked stepOf stepBytes step perform guard rowOf fieldsFit begins begin givesUp giveUp deliver serve comparing replacing withoutKey joining gathering take takes link open? closes close nextCount toWrite givenBy countLeft starts advance fault source? lie mayAnswer newView call enough heard shown agreed all same chain follow below larger largest quorum size sized readSize writeSize oneExchange countTo any holds bitOf nth replace view server client message member present room withServer withClient withView withMessage withAdministrator send
 run-of bits f steps = runFrom (begun bits f) steps
 
 -- its operations
@@ -106,7 +106,7 @@ worked-answer = refl
 
 -- ---- document 01's wrong ideas, on servers 1 to 4 with f 1
 
-four : fresh 15 1 ≡ done (begun 15 1)
+four : fresh 15 1 0 ≡ done (begun 15 1)
 unfolding fresh run-of
 four = refl
 

@@ -7,7 +7,7 @@ use lib.ListN.{getD}
 use lib.Dec.{eqb}
 use Rattle.protocol.specs.Types.{Entry, View, Server, Message, Step, Range, Shown}
 use Rattle.protocol.specs.Tools.{if, within, Result, done, guard, then}
-use Rattle.protocol.specs.Sizes.{clients, servers, views, messages, viewWith, writeSize}
+use Rattle.protocol.specs.Sizes.{clients, servers, views, messages, viewWith, writeSize, oneExchange}
 use Rattle.protocol.specs.Entries.{empty, chosen}
 use Rattle.protocol.specs.Servers.{READ, WRITE, END, START, ANSWER, serve, mayAnswer}
 use Rattle.protocol.specs.Clients.{WRITES, READS, number, begin, giveUp, requestOf, closeSize, close, endOf, call, advance}
@@ -39,7 +39,7 @@ viewStep = 7
 abbrev pub giveUpStep : ℕ
 giveUpStep = 8
 
--- the fields that a step may use, a flag each; who is a client or a server
+-- the fields that a step may use, a flag each; who is a client, a server or a read size
 abbrev pub CLIENT : ℕ
 CLIENT = 1
 
@@ -61,6 +61,9 @@ SOURCE = 32
 abbrev pub VALUE : ℕ
 VALUE = 64
 
+abbrev pub SIZE : ℕ
+SIZE = 128
+
 -- "Which fields each kind uses is one table": the row of kind k is number k
 abbrev pub fieldTable : List ℕ
 fieldTable =
@@ -71,7 +74,7 @@ fieldTable =
     ∷ MESSAGE
     ∷ SERVER
     ∷ (SERVER + VIEW + MESSAGE + SOURCE)
-    ∷ (F + VALUE)
+    ∷ (SIZE + F + VALUE)
     ∷ CLIENT
     ∷ []
 
@@ -108,6 +111,10 @@ viewRange = range 1 views
 abbrev pub thresholdRange : Range
 thresholdRange = range 0 lastByte
 
+-- any read size: 8 judges it
+abbrev pub readRange : Range
+readRange = range 0 lastByte
+
 abbrev pub messageRange : Range
 messageRange = range 1 messages
 
@@ -117,12 +124,15 @@ sourceRange = range 0 messages
 abbrev pub valueRange : Range
 valueRange = range 0 lastWord
 
--- who is a client, a server or unused
+-- who is the number of a client or of a server; else it is a read size, or unused
+abbrev pub whoNamed : ℕ → Bool
+whoNamed row = inRow row CLIENT || inRow row SERVER
+
 abbrev pub whoUsed : ℕ → Bool
-whoUsed row = inRow row CLIENT || inRow row SERVER
+whoUsed row = whoNamed row || inRow row SIZE
 
 abbrev pub whoRange : ℕ → Range
-whoRange row = if (inRow row CLIENT) clientRange serverRange
+whoRange row = if (inRow row CLIENT) clientRange (if (inRow row SERVER) serverRange readRange)
 
 -- a used field is in its range; "an unused field is zero"
 abbrev pub field : Bool → Range → ℕ → Bool
@@ -199,6 +209,10 @@ open? w r =
 abbrev pub takenWith : World → ℕ → List ℕ
 takenWith w k = k ∷ chain w (message w k .request .0)
 
+-- a read may end in one exchange: "all its taken answers of the chosen view carry one entry", and the view permits it
+abbrev pub atOnce : World → ℕ → List ℕ → Bool
+atOnce w t ks = agreed w t ks && oneExchange (view w t)
+
 -- a phase of client c closes with the entry e: its WRITE is sent, or its operation is complete
 unfoldable pub closes : World → ℕ → ℕ → Entry → Bool → Result After
 closes w k c e one =
@@ -213,13 +227,13 @@ starts w k e =
     (moved (send (withAdministrator (link w k) (advance (w .administrator))) (request START 0 (newest w + 1) e)))
 
 -- "A phase closes when, by the answer just taken, the answers taken with that answer's view t come from at least q(t)
--- different servers." END: "answers tagged t"; "Answers to END with another view are taken and count for nothing."
+-- different servers.", q(t) being the read size or the write size of t. END: "answers tagged t"; "Answers to END with another view are taken and count for nothing."
 unfoldable pub takes : World → ℕ → ℕ → ℕ → Result After
 takes w k r t =
     if (eqb (message w r .kind) END)
     (if (eqb t (newest w) && enough w t (takenWith w k) (writeSize (view w t))) (starts w k (chosen (shown w t (takenWith w k)))) (moved (link w k)))
     (if (enough w t (takenWith w k) (closeSize (client w (message w r .sender) .phase) (view w t)))
-    (closes w k (message w r .sender) (chosen (shown w t (takenWith w k))) (agreed w t (takenWith w k))) (moved (link w k)))
+    (closes w k (message w r .sender) (chosen (shown w t (takenWith w k))) (atOnce w t (takenWith w k))) (moved (link w k)))
 
 -- "Take: 5, not an answer; 7, taken before, or its request is neither that of an open phase nor the END number; 11; 10"
 unfoldable pub take : World → ℕ → Result After
@@ -253,9 +267,9 @@ newView w v =
     (λ a. guard (room w) 10
     (moved (send (withView (withAdministrator w a) (newest w + 1) v) (request END 0 (newest w) empty))))
 
--- "new view: f, value (member bits)"
+-- "new view: f, value (member bits)", and the read size "in its who"
 abbrev pub viewAsked : Step → View
-viewAsked st = viewWith (st .value) (st .f)
+viewAsked st = viewWith (st .value) (st .f) (st .who)
 
 -- what a step does, by its kind
 unfoldable pub perform : World → Step → Result After

@@ -20,7 +20,7 @@ pub record World : Type 0 where
   pub messageList : List Message
 
 abbrev pub noView : View
-noView = viewWith 0 0
+noView = viewWith 0 0 0
 
 abbrev pub noServer : Server
 noServer = record { view = record { 0 = 0 }; faulty = false; keys = record { 0 = 0 }; entry = empty }
@@ -109,10 +109,10 @@ freshWorld v =
       messageList = replicate (suc messages) noMessage;
     }
 
--- "Fresh world (member bits, f): ... 8, size rule broken."
-unfoldable pub fresh : ℕ → ℕ → Result World
-fresh bits f =
-    let v : View = viewWith bits f in
+-- "Fresh world (member bits, f): ... 8, size rule broken."; "The fresh world takes r"
+unfoldable pub fresh : ℕ → ℕ → ℕ → Result World
+fresh bits f r =
+    let v : View = viewWith bits f r in
     guard (sized v) 8 (done (freshWorld v))
 
 -- "a faulty server counts against view t as long as it holds key t"

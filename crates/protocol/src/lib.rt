@@ -28,10 +28,11 @@ pub struct Entry {
     pub value: u32,
 }
 
-// A view: its server set and its threshold.
+// A view: its server set, its threshold and its read size, 0 for that of a quorum.
 pub struct View {
     pub members: ServerSet,
     pub f: u8,
+    pub r: u8,
 }
 
 // A server's record.

@@ -132,8 +132,8 @@ module _ (i j s : List ℕ) (b : Bool) (e : b ≡ lentWell i j s) (t : not b ≡
   pub lent-same : length s ≡ length j
   lent-same = lent .shorter
 
-module _ (i : List ℕ) (bits f : ℕ) (j s : List ℕ) (b : Bool) (e : b ≡ lentWell i j s) where
-  pub lent-wrong : not b ≡ true → Shortens (ShortenRefused 1) i s (shortenOn i bits f j s)
+module _ (i : List ℕ) (bits f reads : ℕ) (j s : List ℕ) (b : Bool) (e : b ≡ lentWell i j s) where
+  pub lent-wrong : not b ≡ true → Shortens (ShortenRefused 1) i s (shortenOn i bits f reads j s)
   unfolding shortenOn guard
   lent-wrong t = rw (sym e ∙ not-true b t) (record { answer = refl; image = refl; shorter = refl })
 
@@ -141,21 +141,21 @@ module _ (i : List ℕ) (bits f : ℕ) (j s : List ℕ) (b : Bool) (e : b ≡ le
     size : length i ≡ imageSize
     size = lent i j s b e t .image
 
-    module _ (n : ℕ) (answer : n ≡ freshOn i bits f .refusal) where
-      pub not-fresh : (i′ : List ℕ) → (n ≡ 0 → ⊥) → i′ ≡ freshOn i bits f .image → Shortens (ShortenRefused n) i′ s (shortenOn i bits f j s)
+    module _ (n : ℕ) (answer : n ≡ freshOn i bits f reads .refusal) where
+      pub not-fresh : (i′ : List ℕ) → (n ≡ 0 → ⊥) → i′ ≡ freshOn i bits f reads .image → Shortens (ShortenRefused n) i′ s (shortenOn i bits f reads j s)
       unfolding shortenOn guard
       not-fresh i′ h q =
-          let no : fresh bits f ≡ refused n = fresh-refused i size bits f n answer h in
-          rw (well i j s b e t, no) (record { answer = refl; image = q ∙ fresh-stays i size bits f n no; shorter = refl })
+          let no : fresh bits f reads ≡ refused n = fresh-refused i size bits f reads n answer h in
+          rw (well i j s b e t, no) (record { answer = refl; image = q ∙ fresh-stays i size bits f reads n no; shorter = refl })
 
       module _ (z : n ≡ 0) where
-        pub lent-begins : Begins (viewWith bits f)
-        lent-begins = fresh-begins i size bits f (sym z ∙ answer)
+        pub lent-begins : Begins (viewWith bits f reads)
+        lent-begins = fresh-begins i size bits f reads (sym z ∙ answer)
 
-        pub lent-fresh : (i′ : List ℕ) → i′ ≡ freshOn i bits f .image → i′ ≡ encode (freshWorld (viewWith bits f))
-        lent-fresh i′ q = started i size (viewWith bits f) i′ lent-begins q
+        pub lent-fresh : (i′ : List ℕ) → i′ ≡ freshOn i bits f reads .image → i′ ≡ encode (freshWorld (viewWith bits f reads))
+        lent-fresh i′ q = started i size (viewWith bits f reads) i′ lent-begins q
 
         pub from-fresh : (r : Shortened) (i′ s′ : List ℕ)
-            → Shortens r i′ s′ (ended (freshWorld (viewWith bits f)) s (shortened (freshWorld (viewWith bits f)) (stepsOf j))) → Shortens r i′ s′ (shortenOn i bits f j s)
+            → Shortens r i′ s′ (ended (freshWorld (viewWith bits f reads)) s (shortened (freshWorld (viewWith bits f reads)) (stepsOf j))) → Shortens r i′ s′ (shortenOn i bits f reads j s)
         unfolding shortenOn guard
         from-fresh r i′ s′ h = rw (well i j s b e t, lent-begins .begins) h

@@ -92,6 +92,6 @@ abbrev pub begunFrom : Result World → List ℕ → List ℕ → List ℕ → S
 begunFrom (refused n) i j s = record { answer = refused n; image = i; shorter = s }
 begunFrom (done w) i j s = ended w s (shortened w (stepsOf j))
 
--- the whole operation, from the fresh world of these member bits and f
-unfoldable pub shortenOn : List ℕ → ℕ → ℕ → List ℕ → List ℕ → Shortening
-shortenOn i bits f j s = begunFrom (guard (lentWell i j s) 1 (fresh bits f)) i j s
+-- the whole operation, from the fresh world of these member bits, f and read size
+unfoldable pub shortenOn : List ℕ → ℕ → ℕ → ℕ → List ℕ → List ℕ → Shortening
+shortenOn i bits f reads j s = begunFrom (guard (lentWell i j s) 1 (fresh bits f reads)) i j s

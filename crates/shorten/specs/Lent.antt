@@ -34,37 +34,37 @@ pub record Shortens (r : Shortened) (i s : List ℕ) (p : Shortening) : Type 0 w
 
 -- the world of this view is fresh: the arguments of `fresh` are kept together
 pub record Begins (v : View) : Type 0 where
-  pub begins : fresh (v .members .0) (v .f) ≡ done (freshWorld v)
+  pub begins : fresh (v .members .0) (v .f) (v .r) ≡ done (freshWorld v)
 
 -- ---- the fresh world
 
 module _ (i : List ℕ) (size : length i ≡ imageSize) where
-  fresh-image : (v : View) → Begins v → freshOn i (v .members .0) (v .f) .image ≡ encode (freshWorld v)
+  fresh-image : (v : View) → Begins v → freshOn i (v .members .0) (v .f) (v .r) .image ≡ encode (freshWorld v)
   unfolding freshOn guard
   fresh-image v h = rw (eq-eqb (length i) imageSize size, h .begins) refl
 
-  pub started : (v : View) (i′ : List ℕ) → Begins v → i′ ≡ freshOn i (v .members .0) (v .f) .image → i′ ≡ encode (freshWorld v)
+  pub started : (v : View) (i′ : List ℕ) → Begins v → i′ ≡ freshOn i (v .members .0) (v .f) (v .r) .image → i′ ≡ encode (freshWorld v)
   started v i′ h e = e ∙ fresh-image v h
 
-  pub fresh-begins : (bits f : ℕ) → 0 ≡ freshOn i bits f .refusal → Begins (viewWith bits f)
+  pub fresh-begins : (bits f reads : ℕ) → 0 ≡ freshOn i bits f reads .refusal → Begins (viewWith bits f reads)
   unfolding freshOn guard fresh
-  fresh-begins bits f e = go (sized (viewWith bits f)) refl
+  fresh-begins bits f reads e = go (sized (viewWith bits f reads)) refl
     where
-      go : (b : Bool) → sized (viewWith bits f) ≡ b → Begins (viewWith bits f)
+      go : (b : Bool) → sized (viewWith bits f reads) ≡ b → Begins (viewWith bits f reads)
       go true h = record { begins = rw h refl }
       go false h = let k : _≡_ {A = ℕ} 0 8 = e ∙ rw (eq-eqb (length i) imageSize size, h) refl in absurd (omega arith)
 
-  pub fresh-refused : (bits f n : ℕ) → n ≡ freshOn i bits f .refusal → (n ≡ 0 → ⊥) → fresh bits f ≡ refused n
+  pub fresh-refused : (bits f reads n : ℕ) → n ≡ freshOn i bits f reads .refusal → (n ≡ 0 → ⊥) → fresh bits f reads ≡ refused n
   unfolding freshOn guard
-  fresh-refused bits f n e h = go (fresh bits f) (e ∙ ap (λ (b : Bool). outcome i (guard b 1 (fresh bits f)) .refusal) (eq-eqb (length i) imageSize size))
+  fresh-refused bits f reads n e h = go (fresh bits f reads) (e ∙ ap (λ (b : Bool). outcome i (guard b 1 (fresh bits f reads)) .refusal) (eq-eqb (length i) imageSize size))
     where
       go : (x : Result World) → n ≡ outcome i x .refusal → x ≡ refused n
       go (refused m) k = ap refused (sym k)
       go (done w) k = absurd (h k)
 
-  pub fresh-stays : (bits f n : ℕ) → fresh bits f ≡ refused n → freshOn i bits f .image ≡ i
+  pub fresh-stays : (bits f reads n : ℕ) → fresh bits f reads ≡ refused n → freshOn i bits f reads .image ≡ i
   unfolding freshOn guard
-  fresh-stays bits f n e = rw (eq-eqb (length i) imageSize size, e) refl
+  fresh-stays bits f reads n e = rw (eq-eqb (length i) imageSize size, e) refl
 
 -- ---- a replay in two parts
 

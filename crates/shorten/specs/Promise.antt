@@ -22,16 +22,16 @@ use Rattle.shorten.specs.Lent.{Shortens}
 use Rattle.shorten.specs.declared.Shortened.the-variants.{ShortenDone}
 use Rattle.shorten.specs.Ends.{Lent, lent-well}
 
--- from the fresh world of these member bits and f and from the journal j: the image i, and the buffer s with a short journal of k steps
-pub record Given (bits f : ℕ) (j : List ℕ) (k : ℕ) (i s : List ℕ) : Type 0 where
+-- from the fresh world of these member bits, f and read size and from the journal j: the image i, and the buffer s with a short journal of k steps
+pub record Given (bits f reads : ℕ) (j : List ℕ) (k : ℕ) (i s : List ℕ) : Type 0 where
   pub world : World
-  pub begins : fresh bits f ≡ done world
+  pub begins : fresh bits f reads ≡ done world
   pub image : i ≡ encode world
   pub short : Short world (stepsOf j) (stepsIn k s)
   pub most : k ≤ mostSteps
   pub zero-after : drop (k * stepWidth) s ≡ replicate (length s - k * stepWidth) 0
 
-module _ (i : List ℕ) (bits f : ℕ) (j s : List ℕ) (lent : Lent i j s) (w : World) (e : fresh bits f ≡ done w) (bs : List (List ℕ)) (h : shortened w (stepsOf j) ≡ done bs) where
+module _ (i : List ℕ) (bits f reads : ℕ) (j s : List ℕ) (lent : Lent i j s) (w : World) (e : fresh bits f reads ≡ done w) (bs : List (List ℕ)) (h : shortened w (stepsOf j) ≡ done bs) where
   shorts : Short w (stepsOf j) bs
   shorts = is-short w (stepsOf j) bs h
 
@@ -56,7 +56,7 @@ module _ (i : List ℕ) (bits f : ℕ) (j s : List ℕ) (lent : Lent i j s) (w :
       let z : length s - length bs * stepWidth ≡ length (filled (length s) bs) - length bs * stepWidth = omega arith in
       drop-at (bytesOf bs) (replicate (length s - length bs * stepWidth) 0) (length bs * stepWidth) c ∙ ap (λ (n : ℕ). replicate n 0) z
 
-  pub given : Given bits f j (length bs) (encode w) (filled (length s) bs)
+  pub given : Given bits f reads j (length bs) (encode w) (filled (length s) bs)
   given = record { world = w; begins = e; image = refl; short = subst (Short w (stepsOf j)) (sym steps-are) shorts; most = (let c = fewer in let e = lent .few in omega arith); zero-after = zeros }
 
 -- the one refusal of a journal's steps
@@ -68,31 +68,31 @@ only-15 w bs m e = go (ltb 0 (replay w bs .refusal)) e
     go true q = let z : _≡_ {A = ℕ} 0 1 = cc in absurd (omega arith)
     go false q = cc
 
-module _ (i : List ℕ) (bits f : ℕ) (j s : List ℕ) where
-  pub short-journal : (k : ℕ) → shortenOn i bits f j s .answer ≡ done k → Given bits f j k (shortenOn i bits f j s .image) (shortenOn i bits f j s .shorter)
+module _ (i : List ℕ) (bits f reads : ℕ) (j s : List ℕ) where
+  pub short-journal : (k : ℕ) → shortenOn i bits f reads j s .answer ≡ done k → Given bits f reads j k (shortenOn i bits f reads j s .image) (shortenOn i bits f reads j s .shorter)
   unfolding shortenOn
-  short-journal k a = first (guard (lentWell i j s) 1 (fresh bits f)) refl a
+  short-journal k a = first (guard (lentWell i j s) 1 (fresh bits f reads)) refl a
     where
-      second : (w : World) → guard (lentWell i j s) 1 (fresh bits f) ≡ done w → (x : Result (List (List ℕ))) → shortened w (stepsOf j) ≡ x
-          → ended w s x .answer ≡ done k → Given bits f j k (ended w s x .image) (ended w s x .shorter)
+      second : (w : World) → guard (lentWell i j s) 1 (fresh bits f reads) ≡ done w → (x : Result (List (List ℕ))) → shortened w (stepsOf j) ≡ x
+          → ended w s x .answer ≡ done k → Given bits f reads j k (ended w s x .image) (ended w s x .shorter)
       second w e (refused n) q b = let z : _≡_ {A = ℕ} 0 1 = cc in absurd (omega arith)
       second w e (done bs) q b =
-          let p = passed (lentWell i j s) 1 (fresh bits f) w e in
+          let p = passed (lentWell i j s) 1 (fresh bits f reads) w e in
           let same : length bs ≡ k = cc in
-          subst (λ (n : ℕ). Given bits f j n (encode w) (filled (length s) bs)) same (given i bits f j s (lent-well i j s (p .0)) w (p .1) bs q)
+          subst (λ (n : ℕ). Given bits f reads j n (encode w) (filled (length s) bs)) same (given i bits f reads j s (lent-well i j s (p .0)) w (p .1) bs q)
 
-      first : (x : Result World) → guard (lentWell i j s) 1 (fresh bits f) ≡ x → begunFrom x i j s .answer ≡ done k → Given bits f j k (begunFrom x i j s .image) (begunFrom x i j s .shorter)
+      first : (x : Result World) → guard (lentWell i j s) 1 (fresh bits f reads) ≡ x → begunFrom x i j s .answer ≡ done k → Given bits f reads j k (begunFrom x i j s .image) (begunFrom x i j s .shorter)
       first (refused n) e b = let z : _≡_ {A = ℕ} 0 1 = cc in absurd (omega arith)
       first (done w) e b = second w e (shortened w (stepsOf j)) refl b
 
   -- what is returned is at most 512
-  pub steps-few : (k : ℕ) (i′ s′ : List ℕ) → Shortens (ShortenDone k) i′ s′ (shortenOn i bits f j s) → k ≤ mostSteps
+  pub steps-few : (k : ℕ) (i′ s′ : List ℕ) → Shortens (ShortenDone k) i′ s′ (shortenOn i bits f reads j s) → k ≤ mostSteps
   steps-few k i′ s′ h = short-journal k (sym (h .answer)) .most
 
   -- "15 is the one refusal that writes the image, and every other lent byte stays as it was"
-  pub refused-stays : (n : ℕ) → shortenOn i bits f j s .answer ≡ refused n → (shortenOn i bits f j s .shorter ≡ s) × ((n ≡ 15 → ⊥) → shortenOn i bits f j s .image ≡ i)
+  pub refused-stays : (n : ℕ) → shortenOn i bits f reads j s .answer ≡ refused n → (shortenOn i bits f reads j s .shorter ≡ s) × ((n ≡ 15 → ⊥) → shortenOn i bits f reads j s .image ≡ i)
   unfolding shortenOn
-  refused-stays n a = first (guard (lentWell i j s) 1 (fresh bits f)) a
+  refused-stays n a = first (guard (lentWell i j s) 1 (fresh bits f reads)) a
     where
       second : (w : World) (x : Result (List (List ℕ))) → shortened w (stepsOf j) ≡ x → ended w s x .answer ≡ refused n → (ended w s x .shorter ≡ s) × ((n ≡ 15 → ⊥) → ended w s x .image ≡ i)
       second w (refused m) q b = (refl, λ h. absurd (h (let same : n ≡ m = cc in same ∙ only-15 w (stepsOf j) m q)))

@@ -102,7 +102,7 @@ played-size i bs r i′ h p = played-legible i bs r i′ h p .size
 
 module _ (v : View) (b : Begins v) (i : List ℕ) (e : i ≡ encode (freshWorld v)) where
   formed : wellFormed (freshWorld v) ≡ true
-  formed = fresh-kept (v .members .0) (v .f) (freshWorld v) (b .begins)
+  formed = fresh-kept (v .members .0) (v .f) (v .r) (freshWorld v) (b .begins)
 
   pub begun-legible : Legible i
   begun-legible = spelled (freshWorld v) formed i e

@@ -32,7 +32,8 @@ fn start(image: &mut [u8], v: View)
 {
     let members = v.members;
     let f = v.f;
-    fresh(image, members.0, f);
+    let r = v.r;
+    fresh(image, members.0, f, r);
 }
 
 // The refusal of a journal's replay from the fresh world without the step at a place, or 0.
@@ -159,21 +160,23 @@ pub fn shorten(
     image: &mut [u8],
     members: u32,
     f: u8,
+    r: u8,
     journal: &[u8],
     shorter: &mut [u8],
 ) -> Shortened
-    ensures { λ r. ⌜ Shortens r (now (image .exit)) (now (shorter .exit)) (shortenOn (now (image .entry)) members f (now (journal .entry)) (now (shorter .entry))) ⌝ }
+    ensures { λ x. ⌜ Shortens x (now (image .exit)) (now (shorter .exit)) (shortenOn (now (image .entry)) members f r (now (journal .entry)) (now (shorter .entry))) ⌝ }
 {
     if !lent_well(image, journal, shorter) {
         return Shortened::ShortenRefused(1);
     }
-    let n = fresh(image, members, f);
+    let n = fresh(image, members, f, r);
     if n != 0 {
         return Shortened::ShortenRefused(n);
     }
     let v = View {
         members: ServerSet(members),
         f: f,
+        r: r,
     };
     reduce(image, v, journal, shorter)
 }

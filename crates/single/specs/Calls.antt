@@ -55,7 +55,7 @@ serverCall s b =
     (guard (messagePlain (part b asked messageWidth)) 3
     (serverRule (serverOf s) (messageOf (part b asked messageWidth)) (getD b rulePlace 0) (getD b flagPlace 0) (getD b askedViewPlace 0))))))
 
--- what is asked of a client ends with a flag: all answers of the chosen view carry the entry
+-- what is asked of a client ends with a flag: all answers of the chosen view carry the entry, and the view permits one exchange
 abbrev pub onePlace : ℕ
 onePlace = asked + entryWidth
 

@@ -54,7 +54,8 @@ operationRule c rule who n e one =
 abbrev pub flagFits : ℕ → ℕ → Bool
 flagFits rule flag = leb flag (bit (eqb rule takeStep))
 
--- a client's rules: those on an operation, and 8 giving up; the flag says whether all answers of the chosen view carry the entry
+-- a client's rules: those on an operation, and 8 giving up; the flag says whether all answers of the chosen view carry the
+-- entry and the view permits one exchange
 unfoldable pub clientRule : Client → ℕ → ℕ → ℕ → Entry → ℕ → Result Close
 clientRule c rule who n e flag =
     guard (flagFits rule flag) 3 (if (eqb rule giveUpStep) (droppingRule c who n e) (operationRule c rule who n e (eqb flag 1)))
@@ -63,4 +64,4 @@ clientRule c rule who n e flag =
 unfoldable pub administratorRule : Administrator → ℕ → ℕ → View → Result Administrator
 administratorRule a rule n v =
     if (eqb rule viewStep) (callRule a v n)
-    (guard (eqb rule takeStep) 3 (guard (eqb n 0) 3 (guard (eqb (v .members .0) 0) 3 (guard (eqb (v .f) 0) 3 (advanceRule a)))))
+    (guard (eqb rule takeStep) 3 (guard (eqb n 0) 3 (guard (eqb (v .members .0) 0) 3 (guard (eqb (v .f) 0) 3 (guard (eqb (v .r) 0) 3 (advanceRule a))))))

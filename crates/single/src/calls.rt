@@ -50,7 +50,7 @@ const ADMINISTRATOR_SPARE_AT: usize = 1;
 
 const ASKED: usize = NUMBER_AT + U16;
 
-// What is asked of a client ends with a flag: all answers of the chosen view carry the entry.
+// What is asked of a client ends with a flag: all answers of the chosen view carry the entry, and the view permits one exchange.
 const ONE_AT: usize = ASKED + ENTRY;
 
 // "rule u8, flag u8, view u8, 1 zero, message"

@@ -132,7 +132,7 @@ fn flag_fits(rule: u8, flag: u8) -> bool
 }
 
 // A client's rules, by the kinds of their steps: those on an operation, and 8 giving up; the flag says whether all answers of the
-// chosen view carry the entry.
+// chosen view carry the entry and the view permits one exchange.
 pub fn client_rule(c: Client, rule: u8, who: u8, n: MessageNumber, e: Entry, flag: u8) -> Closing
     ensures { λ r. ⌜ closing r ≡ clientRule c rule who (n .0) e flag ⌝ }
 {
@@ -164,6 +164,9 @@ pub fn administrator_rule(a: Administrator, rule: u8, n: MessageNumber, v: View)
         return Called::CallRefused(UNFIT);
     }
     if v.f != 0 {
+        return Called::CallRefused(UNFIT);
+    }
+    if v.r != 0 {
         return Called::CallRefused(UNFIT);
     }
     rules::advance_rule(a)

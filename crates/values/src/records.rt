@@ -59,7 +59,10 @@ pub fn view_fits(v: View, t: ViewNumber, last: ViewNumber) -> bool
     if members.0 != 0 {
         return false;
     }
-    v.f == 0
+    if v.f != 0 {
+        return false;
+    }
+    v.r == 0
 }
 
 // The keys are those of views 1 to newest.

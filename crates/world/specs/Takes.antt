@@ -24,13 +24,13 @@ use Rattle.protocol.specs.declared.Called.the-variants.{CallRefused, Calling}
 use Rattle.protocol.specs.declared.Ending.{Ending}
 use Rattle.protocol.specs.declared.Ending.the-variants.{Settled, EndSent}
 use Rattle.protocol.specs.Tools.{if, within, all, Result, refused, done, guard}
-use Rattle.protocol.specs.Sizes.{clients, views, messages, writeSize}
+use Rattle.protocol.specs.Sizes.{clients, views, messages, writeSize, oneExchange}
 use Rattle.protocol.specs.Entries.{chosen}
 use Rattle.protocol.specs.Servers.{READ, WRITE, END, START, ANSWER}
 use Rattle.protocol.specs.Clients.{number, requestOf, closeSize, Close, close, endOf, advance, taken, called}
 use Rattle.protocol.specs.Worlds.{World, view, client, message, newest, present, room, withClient, withAdministrator, send, nextNumber}
-use Rattle.protocol.specs.Chains.{follow, chain, enough, shown, agreed}
-use Rattle.protocol.specs.Steps.{After, moved, request, link, open?, takenWith, closes, starts, takes, take}
+use Rattle.protocol.specs.Chains.{follow, chain, enough, shown}
+use Rattle.protocol.specs.Steps.{After, moved, request, link, open?, takenWith, atOnce, closes, starts, takes, take}
 use Rattle.protocol.specs.Readable.{endingFits, senderFits, tagRule, sentFits, takenAnswer}
 use Rattle.protocol.specs.Laws.Tests.{and-left, and-right, within-true}
 use Rattle.protocol.specs.Laws.Sound.{link-used}
@@ -272,7 +272,7 @@ endTaken w k =
 unfoldable pub clientTaken : World → ℕ → ℕ → Result After
 clientTaken w k c =
     let t : ℕ = message w k .view .0 in
-    if (enough w t (takenWith w k) (closeSize (client w c .phase) (view w t))) (closes w k c (chosen (shown w t (takenWith w k))) (agreed w t (takenWith w k))) (moved (link w k))
+    if (enough w t (takenWith w k) (closeSize (client w c .phase) (view w t))) (closes w k c (chosen (shown w t (takenWith w k))) (atOnce w t (takenWith w k))) (moved (link w k))
 
 module _ (w : World) (k : ℕ) where
   -- "Answers to END with another view are taken and count for nothing."
@@ -295,11 +295,11 @@ module _ (w : World) (k : ℕ) where
     unfolding clientTaken
     client-open c s o = rw (← s, stays-open (enough w (message w k .view .0) (takenWith w k) size) x (choice w (message w k .view .0) (takenWith w k)) p o)
 
-    pub client-closed : (c : ℕ) → size ≡ closeSize (client w c .phase) (view w (message w k .view .0)) → (e : Choice) → x ≡ Closed e → clientTaken w k c ≡ closes w k c (e .entry) (e .one)
+    pub client-closed : (c : ℕ) → size ≡ closeSize (client w c .phase) (view w (message w k .view .0)) → (e : Choice) → x ≡ Closed e → (one : Bool) → one ≡ e .one && oneExchange (view w (message w k .view .0)) → clientTaken w k c ≡ closes w k c (e .entry) one
     unfolding clientTaken
-    client-closed c s e o =
+    client-closed c s e o one q =
         let (b, d) = is-closed (enough w (message w k .view .0) (takenWith w k) size) x (choice w (message w k .view .0) (takenWith w k)) p e o in
-        rw (← s, b, d)
+        rw (← s, b, q, d)
 
 -- ---- a phase of a client closes
 
@@ -504,3 +504,8 @@ pub size-known : {l : List ℕ} {k : ℕ} → Takable l k → (c : ℕ) → 1 �
     → b ≡ clientAt l c → size ≡ closeSize (b .phase) v → size ≡ closeSize (client (decode l) c .phase) (view (decode l) (message (decode l) k .view .0))
 size-known {l} {k} h c lo hi m v b size e f g p =
     p ∙ ap (λ (x : Client). closeSize (x .phase) v) (g ∙ client-is (h .legible) c lo hi) ∙ ap (closeSize (client (decode l) c .phase)) (view-known h m e v f)
+
+-- whether a read ends in one exchange
+pub once-known : {l : List ℕ} {k : ℕ} → Takable l k → (m : Message) (v : View) (b one : Bool) → m ≡ messageAt l k → v ≡ viewAt l (m .view .0)
+    → one ≡ b && oneExchange v → one ≡ b && oneExchange (view (decode l) (message (decode l) k .view .0))
+once-known h m v b one e f p = p ∙ ap (λ (x : View). b && oneExchange x) (view-known h m e v f)

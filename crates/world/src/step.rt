@@ -49,6 +49,7 @@ fn perform(image: &mut [u8], st: Step) -> Stepped
             View {
                 members: ServerSet(st.value),
                 f: st.f,
+                r: who,
             },
         ),
         _ => gives_up(image, who),

@@ -29,7 +29,6 @@ use machines::clients::close;
 use machines::clients::close_size;
 use machines::clients::request_of;
 use protocol::Called;
-use protocol::Choice;
 use protocol::Client;
 use protocol::Closing;
 use protocol::Entry;
@@ -44,11 +43,12 @@ use protocol::kinds::START;
 use protocol::kinds::WRITE;
 use protocol::limits::MESSAGES;
 use values::sets::server_alone;
+use values::sizes::at_once;
 use values::sizes::write_size;
 use values::tally::closes;
 
 // "A phase closes when, by the answer just taken, the answers taken with that answer's view t come from at least q(t)
-// different servers.": k is that answer, and size is q(t).
+// different servers.": k is that answer, and size is q(t), the read size or the write size of t.
 fn taken_with(image: &[u8], k: MessageNumber, size: u32) -> Taken
     requires { ⌜ Takable (now image) (k .0) ⌝ }
     ensures { λ r. ⌜ takenBy r ≡ closesWith (decode (now (image .entry))) (k .0) size ⌝ }
@@ -137,15 +137,15 @@ fn write_next(image: &mut [u8], k: MessageNumber, c: u8, a: Client) -> Stepped
     Stepped::StepDone(0)
 }
 
-// A phase of client c closes with what is chosen, x: the operation is complete, or its WRITE is next. 11, the closing write
-// would need a count over 4,294,967,295; 10.
-fn close_client(image: &mut [u8], k: MessageNumber, c: u8, x: Choice) -> Stepped
+// A phase of client c closes with the entry e, and one says whether a read ends with it: the operation is complete, or its WRITE is
+// next. 11, the closing write would need a count over 4,294,967,295; 10.
+fn close_client(image: &mut [u8], k: MessageNumber, c: u8, e: Entry, one: bool) -> Stepped
     requires { ⌜ Takable (now image) (k .0) × (1 ≤ c) × (c ≤ clients) ⌝ }
-    ensures { λ r. ⌜ Does r (now (image .entry)) (now (image .exit)) (closesOf (decode (now (image .entry))) (k .0) c (x .entry) (x .one)) ⌝ }
+    ensures { λ r. ⌜ Does r (now (image .entry)) (now (image .exit)) (closesOf (decode (now (image .entry))) (k .0) c e one) ⌝ }
 {
     let used = load_used(image);
     let before = load_client(image, c);
-    let closing = close(before, c, x.entry, x.one, MessageNumber(used + 1));
+    let closing = close(before, c, e, one, MessageNumber(used + 1));
     match closing {
         Closing::CloseRefused(n) => Stepped::StepRefused(n),
         Closing::WritesNext(a) => write_next(image, k, c, a),
@@ -157,7 +157,8 @@ fn close_client(image: &mut [u8], k: MessageNumber, c: u8, x: Choice) -> Stepped
     }
 }
 
-// "the answer either closes its phase or leaves it open": the phase of client c.
+// "the answer either closes its phase or leaves it open": the phase of client c. A read ends in one exchange only where the view
+// permits it.
 fn take_client(image: &mut [u8], k: MessageNumber, c: u8) -> Stepped
     requires { ⌜ Takable (now image) (k .0) × (1 ≤ c) × (c ≤ clients) ⌝ }
     ensures { λ r. ⌜ Does r (now (image .entry)) (now (image .exit)) (clientTaken (decode (now (image .entry))) (k .0) c) ⌝ }
@@ -172,7 +173,8 @@ fn take_client(image: &mut [u8], k: MessageNumber, c: u8) -> Stepped
         link(image, k);
         return Stepped::StepDone(0);
     };
-    close_client(image, k, c, x)
+    let one = at_once(x.one, v);
+    close_client(image, k, c, x.entry, one)
 }
 
 // "t+1 becomes the newest and START t+1 is sent with their largest entry", e. 10. A view that is ended is below 32, so that

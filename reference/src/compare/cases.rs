@@ -5,7 +5,7 @@ use crate::codec::image_of;
 use crate::compare::check::Comparison;
 use crate::generate::answers::list;
 use crate::generate::calls::{administrator_call, client_call, server_call, spoil_call};
-use crate::generate::journals::journal;
+use crate::generate::journals::{any_read_size, journal};
 use crate::generate::logs::{kept, log};
 use crate::generate::profile::{Profile, LATECOMERS, PROFILES, WRECK};
 use crate::generate::specimen::specimen;
@@ -21,10 +21,11 @@ use crate::operations::FIRST_SIZE;
 use crate::readable::Clause;
 use crate::record::{step_kind, Step};
 use crate::rules::Sound;
+use crate::script::Script;
 use crate::shorten::STEPS as LONGEST;
 use crate::step::step;
 use crate::vouch;
-use crate::world::World;
+use crate::world::{View, World};
 use crate::xorshift::Draws;
 
 /// Journals in a run of the least size.
@@ -38,6 +39,7 @@ pub const STEPS: usize = 20_000;
 pub fn run_all(comparison: &mut Comparison, steps: usize, journals: usize, seed: u64) {
     let mut draws = Draws::new(seed);
     quorum_sizes(comparison);
+    read_sizes(comparison, &mut draws);
     fresh_worlds(comparison, &mut draws, steps / 20);
     every_clause(comparison, &mut draws);
     whole_journals(comparison, &mut draws, journals);
@@ -73,6 +75,7 @@ fn single_machines(comparison: &mut Comparison, draws: &mut Draws, count: usize)
 
 fn quorum_sizes(comparison: &mut Comparison) {
     let edges = [
+        43,
         255,
         256,
         0x5555_5555,
@@ -85,7 +88,9 @@ fn quorum_sizes(comparison: &mut Comparison) {
     let sizes: Vec<u32> = (0..=40).chain(edges).collect();
     for n in &sizes {
         for f in &sizes {
-            comparison.quorum(*n, *f);
+            for r in &sizes {
+                comparison.quorum(*n, *f, *r);
+            }
         }
     }
 }
@@ -106,8 +111,63 @@ fn fresh_worlds(comparison: &mut Comparison, draws: &mut Draws, count: usize) {
             1 => n.div_ceil(3),
             _ => n.saturating_sub(1) / 3,
         };
-        comparison.fresh(&vec![byte; length], members, f as u8);
+        let r = any_read_size(draws, n, f);
+        comparison.fresh(&vec![byte; length], members, f as u8, r);
     }
+}
+
+/// Every read size up to two beyond its bounds of every n and f that obey the
+/// size rule: in a fresh world, in a new view, and in an image. Where it is
+/// permitted, a filing and a read that end as soon as they can, END and START.
+fn read_sizes(comparison: &mut Comparison, draws: &mut Draws) {
+    let base = comparison.fresh(&[0; IMAGE_SIZE], 0b1111, 1, 0);
+    for n in 1..=32 {
+        for f in 0..=(n - 1) / 3 {
+            for r in 0..=n + f + 3 {
+                let view = View {
+                    members: draws.bits(n, 32),
+                    f: f as u8,
+                    r: r as u8,
+                    ..View::default()
+                };
+                one_read_size(comparison, &base, view);
+            }
+        }
+    }
+}
+
+fn one_read_size(comparison: &mut Comparison, base: &[u8], view: View) {
+    let View { members, f, r, .. } = view;
+    let image = comparison.fresh(&[0xff; IMAGE_SIZE], members, f, r);
+    comparison.step(base, &Step::sized_view(members, f, r).bytes());
+    if view.size_rule().is_ok() {
+        let journal = as_soon_as_it_can(view);
+        comparison.replay(&image, &journal.bytes());
+        return;
+    }
+    let mut world = World::fresh(members, f, 0).expect("n and f obey the size rule");
+    world.views[0].r = r;
+    comparison.premise(&image_of(&world)[..]);
+    comparison.step(&image_of(&world)[..], &Step::read(1).bytes());
+}
+
+/// A filing and a read by servers in number order, and then the view's end.
+fn as_soon_as_it_can(view: View) -> Journal {
+    let View { members, f, r, .. } = view;
+    let mut script = Script::sized(members, f, r);
+    let servers: Vec<u8> = (1..=32).filter(|s| view.has_member(*s)).collect();
+    script.act(Step::write(1, 7));
+    script.finish_in_turn(1, &servers);
+    script.act(Step::read(2));
+    script.finish_in_turn(2, &servers);
+    script.act(Step::sized_view(members, f, r));
+    let end = script.world.header.end;
+    for server in &servers {
+        if script.world.is_ending() {
+            script.exchange(end, &[*server]);
+        }
+    }
+    script.journal
 }
 
 /// A thousand steps of one seed, and shorter loads of 200 others; then what the
@@ -129,7 +189,7 @@ fn loads(comparison: &mut Comparison, draws: &mut Draws) {
     for steps in [u32::MAX, u32::MAX / 12 + 1, 357_913_942, 1] {
         comparison.load(&[0xff; 24], 7, steps);
     }
-    let mut image = comparison.fresh(&[0; IMAGE_SIZE], 0b1111, 1);
+    let mut image = comparison.fresh(&[0; IMAGE_SIZE], 0b1111, 1, 0);
     for step in thousand.chunks(STEP_SIZE).take(400) {
         image = comparison.step(&image, step);
     }
@@ -198,16 +258,24 @@ pub fn short_journals(comparison: &mut Comparison, count: usize, seed: u64) {
 }
 
 fn shorten_one(comparison: &mut Comparison, draws: &mut Draws, journal: &Journal) {
-    let (members, f, bytes) = (journal.members, journal.f, journal.bytes());
+    let bytes = journal.bytes();
+    let view = View {
+        members: journal.members,
+        f: journal.f,
+        r: journal.r,
+        ..View::default()
+    };
+    let none = View { members: 0, ..view };
     let (image, buffer) = (vec![0xff; IMAGE_SIZE], vec![0xff; bytes.len()]);
-    comparison.shorten(&image, members, f, &bytes, &buffer);
+    comparison.shorten(&image, view, &bytes, &buffer);
     match draws.below(20) {
-        0 => comparison.shorten(&image, members, f, &bytes, &buffer[buffer.len().min(1)..]),
-        1 => comparison.shorten(&image[1..], members, f, &bytes, &buffer),
-        2 => comparison.shorten(&image, 0, f, &bytes, &buffer),
-        3 => {
+        0 => comparison.shorten(&image, view, &bytes, &buffer[buffer.len().min(1)..]),
+        1 => comparison.shorten(&image[1..], view, &bytes, &buffer),
+        2 => comparison.shorten(&image, none, &bytes, &buffer),
+        3 => comparison.shorten(&image, View { r: 255, ..view }, &bytes, &buffer),
+        4 => {
             let length = draws.below(bytes.len() + 1);
-            comparison.shorten(&image, members, f, &bytes[..length], &buffer[..length]);
+            comparison.shorten(&image, view, &bytes[..length], &buffer[..length]);
         }
         _ => {}
     }
@@ -268,7 +336,8 @@ fn closes_on_drawn_worlds(comparison: &mut Comparison, draws: &mut Draws, count:
 fn steps_along_a_run(comparison: &mut Comparison, draws: &mut Draws, count: usize) {
     let profile = *draws.pick(&PROFILES).expect("there are profiles");
     let journal = journal::<Sound>(draws.word(), profile);
-    let mut world = World::fresh(journal.members, journal.f).expect("the journal's world");
+    let mut world =
+        World::fresh(journal.members, journal.f, journal.r).expect("the journal's world");
     let every = journal.steps.len().max(1).div_ceil(count / 2);
     for (place, bytes) in journal.steps.iter().enumerate() {
         if place % every == 0 {
@@ -329,7 +398,7 @@ fn one_journal(comparison: &mut Comparison, draws: &mut Draws, profile: &Profile
     // A replay takes whole steps only; others are tried at its end.
     journal.steps.retain(|step| step.len() == STEP_SIZE);
     let bytes = journal.bytes();
-    let fresh = comparison.fresh(&[0xff; IMAGE_SIZE], journal.members, journal.f);
+    let fresh = comparison.fresh(&[0xff; IMAGE_SIZE], journal.members, journal.f, journal.r);
     let (whole, _) = replay_past_refusals(comparison, &fresh, &bytes);
     let cut = draws.below(bytes.len() / STEP_SIZE + 1) * STEP_SIZE;
     let (part, _) = replay_past_refusals(comparison, &fresh, &bytes[..cut]);
@@ -378,7 +447,7 @@ fn broken_premises(comparison: &mut Comparison, draws: &mut Draws, count: usize)
     for number in 0..count {
         let profile = [&WRECK, &LATECOMERS][number % 2].with_odd(false);
         let journal = journal::<Sound>(draws.word(), &profile);
-        let fresh = comparison.fresh(&[0; IMAGE_SIZE], journal.members, journal.f);
+        let fresh = comparison.fresh(&[0; IMAGE_SIZE], journal.members, journal.f, journal.r);
         comparison.watch(&fresh, &journal.bytes(), FIRST_SIZE);
     }
 }

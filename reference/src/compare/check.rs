@@ -9,12 +9,13 @@ use crate::judge::{is_judged, judge, lines, PLACE_SIZE};
 use crate::layout::STEP_SIZE;
 use crate::load::load;
 use crate::operations;
-use crate::quorum::quorum_size;
+use crate::quorum::{packed, quorum_size};
 use crate::readable::broken;
 use crate::refusal::Reason;
 use crate::shorten::shorten;
 use crate::single;
 use crate::vouch::{vouch, vouch_threshold};
+use crate::world::View;
 
 /// Bytes before and after a lent buffer, which nobody may write.
 const MARGIN: usize = 64;
@@ -126,17 +127,17 @@ impl<'a> Comparison<'a> {
         });
     }
 
-    pub fn quorum(&mut self, n: u32, f: u32) {
-        let ours = quorum_size(n, f);
+    pub fn quorum(&mut self, n: u32, f: u32, r: u32) {
+        let ours = quorum_size(n, f, r);
         match ours {
             Ok(_) => self.counts.accept(Operation::Quorum),
             Err(reason) => self.counts.refuse(Operation::Quorum, reason),
         }
-        let ours = pack_result(ours.map(u64::from));
-        let theirs = self.library.quorum(n, f);
+        let ours = pack_result(ours.map(packed));
+        let theirs = self.library.quorum(n, f, r);
         self.score(theirs == ours, || {
             format!(
-                "quorum({n}, {f}): {}, the reference {}",
+                "quorum({n}, {f}, {r}): {}, the reference {}",
                 unpacked(theirs),
                 unpacked(ours)
             )
@@ -144,17 +145,17 @@ impl<'a> Comparison<'a> {
     }
 
     /// A fresh world over this buffer; the buffer after it.
-    pub fn fresh(&mut self, buffer: &[u8], members: u32, f: u8) -> Vec<u8> {
+    pub fn fresh(&mut self, buffer: &[u8], members: u32, f: u8, r: u8) -> Vec<u8> {
         let mut after = buffer.to_vec();
-        let ours = operations::fresh(&mut after, members, f);
+        let ours = operations::fresh(&mut after, members, f, r);
         match ours {
             Ok(()) => self.counts.accept(Operation::Fresh),
             Err(reason) => self.counts.refuse(Operation::Fresh, reason),
         }
-        let what = format!("fresh({} bytes, {members:#x}, {f})", buffer.len());
+        let what = format!("fresh({} bytes, {members:#x}, {f}, {r})", buffer.len());
         let answer = pack_result(ours.map(|()| 0));
         self.compare_image(buffer, &after, answer, &what, |library, image| {
-            library.fresh(image, members, f)
+            library.fresh(image, members, f, r)
         });
         after
     }
@@ -296,11 +297,12 @@ impl<'a> Comparison<'a> {
     }
 
     /// A journal shortened over these buffers.
-    pub fn shorten(&mut self, image: &[u8], members: u32, f: u8, journal: &[u8], shorter: &[u8]) {
+    pub fn shorten(&mut self, image: &[u8], view: View, journal: &[u8], shorter: &[u8]) {
+        let View { members, f, r, .. } = view;
         self.shortened += 1;
         let mut short = shorter.to_vec();
         let mut after = image.to_vec();
-        let ours = shorten(&mut after, members, f, journal, &mut short);
+        let ours = shorten(&mut after, members, f, r, journal, &mut short);
         match ours {
             Ok(_) => self.counts.accept(Operation::Shorten),
             Err(reason) => self.counts.refuse(Operation::Shorten, reason),
@@ -311,7 +313,7 @@ impl<'a> Comparison<'a> {
         let expected = lent.bytes.clone();
         let mut buffer = Lent::new(shorter);
         self.compare_image(image, &after, answer, &what, |library, image| {
-            library.shorten(image, members, f, lent.content(), buffer.content())
+            library.shorten(image, members, f, r, lent.content(), buffer.content())
         });
         let same = buffer.content() == short && buffer.margins_whole();
         self.score(same, || format!("{what}: another short journal"));

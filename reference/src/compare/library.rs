@@ -4,7 +4,7 @@
 use crate::judge::judge;
 use crate::load::load;
 use crate::operations;
-use crate::quorum::quorum_size;
+use crate::quorum::{packed, quorum_size};
 use crate::refusal::Reason;
 use crate::shorten::shorten;
 use crate::single;
@@ -13,9 +13,9 @@ use crate::vouch::{vouch, vouch_threshold};
 /// Something that answers the calls of the C interface.
 pub trait Library {
     /// The fresh world: the refusal.
-    fn fresh(&self, image: &mut [u8], members: u32, f: u8) -> u64;
-    /// The quorum's size: the refusal, and the size.
-    fn quorum(&self, n: u32, f: u32) -> u64;
+    fn fresh(&self, image: &mut [u8], members: u32, f: u8, r: u8) -> u64;
+    /// Both sizes: the refusal, and the read size + 256 * the write size.
+    fn quorum(&self, n: u32, f: u32, r: u32) -> u64;
     /// One step: the refusal, and the client whose operation completed, or 0.
     fn step(&self, image: &mut [u8], step: &[u8]) -> u64;
     /// The premise: the refusal, and 1 if it holds.
@@ -34,6 +34,7 @@ pub trait Library {
         image: &mut [u8],
         members: u32,
         f: u8,
+        r: u8,
         journal: &[u8],
         shorter: &mut [u8],
     ) -> u64;
@@ -77,12 +78,12 @@ pub fn pack_result(answer: Result<u64, Reason>) -> u64 {
 pub struct Reference;
 
 impl Library for Reference {
-    fn fresh(&self, image: &mut [u8], members: u32, f: u8) -> u64 {
-        pack_result(operations::fresh(image, members, f).map(|()| 0))
+    fn fresh(&self, image: &mut [u8], members: u32, f: u8, r: u8) -> u64 {
+        pack_result(operations::fresh(image, members, f, r).map(|()| 0))
     }
 
-    fn quorum(&self, n: u32, f: u32) -> u64 {
-        pack_result(quorum_size(n, f).map(u64::from))
+    fn quorum(&self, n: u32, f: u32, r: u32) -> u64 {
+        pack_result(quorum_size(n, f, r).map(packed))
     }
 
     fn step(&self, image: &mut [u8], step: &[u8]) -> u64 {
@@ -116,10 +117,11 @@ impl Library for Reference {
         image: &mut [u8],
         members: u32,
         f: u8,
+        r: u8,
         journal: &[u8],
         shorter: &mut [u8],
     ) -> u64 {
-        pack_result(shorten(image, members, f, journal, shorter).map(|steps| steps as u64))
+        pack_result(shorten(image, members, f, r, journal, shorter).map(|steps| steps as u64))
     }
 
     fn watch(&self, image: &mut [u8], journal: &[u8], first: &mut [u8]) -> u64 {

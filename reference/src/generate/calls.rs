@@ -2,6 +2,7 @@
 
 use crate::codec::Record;
 use crate::entry::Entry;
+use crate::generate::journals::any_read_size;
 use crate::layout::{
     ADMINISTRATOR_AT, ADMINISTRATOR_SIZE, LAST_CLIENT, LAST_MESSAGE, LAST_SERVER, LAST_VIEW,
 };
@@ -122,6 +123,7 @@ pub fn administrator_call(world: &World, draws: &mut Draws) -> Call {
         let view = View {
             members: draws.bits(n, 32),
             f: f as u8,
+            r: any_read_size(draws, n, f),
             ..View::default()
         };
         [&[step_kind::NEW_VIEW, 0, n0, n1][..], &view.bytes()].concat()

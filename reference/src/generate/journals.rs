@@ -7,7 +7,7 @@ use crate::premise::premise;
 use crate::record::{step_kind, Step};
 use crate::rules::Rules;
 use crate::step::step;
-use crate::world::World;
+use crate::world::{View, World};
 use crate::xorshift::Draws;
 
 /// After that many proposals in vain a run is taken to be stuck.
@@ -17,9 +17,9 @@ const STUCK: usize = 1000;
 /// each step is drawn for the world that the earlier ones left.
 pub fn journal<R: Rules>(seed: u64, profile: &Profile) -> Journal {
     let mut draws = Draws::new(seed);
-    let (members, f) = draw_view(&mut draws, profile);
-    let world = World::fresh(members, f).expect("a drawn view keeps the size rule");
-    let mut journal = Journal::new(members, f);
+    let View { members, f, r, .. } = draw_view(&mut draws, profile);
+    let world = World::fresh(members, f, r).expect("a drawn view keeps the size rule");
+    let mut journal = Journal::sized(members, f, r);
     let mut run = Run::new(world, draws);
     let mut in_vain = 0;
     while journal.steps.len() < profile.steps && in_vain < STUCK {
@@ -44,8 +44,8 @@ pub fn journal<R: Rules>(seed: u64, profile: &Profile) -> Journal {
     journal
 }
 
-/// Members and f that keep the size rule.
-pub fn draw_view(draws: &mut Draws, profile: &Profile) -> (u32, u8) {
+/// A view that keeps the size rule.
+pub fn draw_view(draws: &mut Draws, profile: &Profile) -> View {
     let n = draws.between(1, usize::from(profile.largest_view.min(profile.servers)));
     let most = (n - 1) / 3;
     // The largest f is what gives faulty servers room.
@@ -54,7 +54,37 @@ pub fn draw_view(draws: &mut Draws, profile: &Profile) -> (u32, u8) {
     } else {
         draws.below(most + 1)
     };
-    (draws.bits(n, usize::from(profile.servers)), f as u8)
+    View {
+        members: draws.bits(n, usize::from(profile.servers)),
+        f: f as u8,
+        r: permitted_read_size(draws, n, f),
+        ..View::default()
+    }
+}
+
+/// A read size that n servers with f faulty ones permit: 0, or one from 2f+1 to
+/// (n+f+1)/2, the ends for preference.
+pub fn permitted_read_size(draws: &mut Draws, n: usize, f: usize) -> u8 {
+    let (least, most) = (2 * f + 1, (n + f).div_ceil(2));
+    let r = match draws.below(5) {
+        0 | 1 => 0,
+        2 => least,
+        3 => most,
+        _ => draws.between(least, most),
+    };
+    r as u8
+}
+
+/// Any read size: a permitted one where there are some, one beside the bounds,
+/// or any byte.
+pub fn any_read_size(draws: &mut Draws, n: usize, f: usize) -> u8 {
+    match draws.below(10) {
+        0 => (2 * f) as u8,
+        1 => ((n + f).div_ceil(2) + 1) as u8,
+        2 => draws.word() as u8,
+        _ if n > 3 * f => permitted_read_size(draws, n, f),
+        _ => 0,
+    }
 }
 
 /// Whether the premise held and no longer does after the step. Only a fault

@@ -8,7 +8,7 @@ use crate::layout::{LAST_CLIENT, LAST_SERVER, STEP_SIZE};
 use crate::record::Step;
 use crate::rules::Rules;
 use crate::step::step;
-use crate::world::{bit, message_kind, phase, World};
+use crate::world::{bit, message_kind, phase, View, World};
 use crate::xorshift::Draws;
 
 /// A run so far: the world, and lists that spare looking through all messages.
@@ -233,9 +233,9 @@ impl Run {
         if self.world.is_ending() {
             return None;
         }
-        let (members, f) = draw_view(&mut self.draws, profile);
+        let View { members, f, r, .. } = draw_view(&mut self.draws, profile);
         let stuck = (self.faulty() & members).count_ones() > u32::from(f);
-        (!stuck || self.allows_stuck(profile)).then(|| Step::new_view(members, f))
+        (!stuck || self.allows_stuck(profile)).then(|| Step::sized_view(members, f, r))
     }
 
     fn fault(&mut self, profile: &Profile) -> Option<Step> {

@@ -35,7 +35,7 @@ pub mod at {
 /// server 2 without a key, server 3 faulty with two keys, the others in no
 /// view; a chain of two, a late answer, and a WRITE of client 5.
 pub fn specimen() -> World {
-    let mut world = World::fresh(0b111, 0).expect("three servers bear no fault");
+    let mut world = World::fresh(0b111, 0, 0).expect("three servers bear no fault");
     for record in steps() {
         step::<Sound>(&mut world, &record).expect("the specimen's steps are accepted");
     }

@@ -111,7 +111,7 @@ fn end_last_view(world: &mut World) {
 
 fn views(clause: Clause) -> Vec<World> {
     match clause {
-        Clause::ViewSpare => each(&[(0, 0), (1, 1), (2, 2), (3, 0), (31, 2)], |world, at| {
+        Clause::ViewSpare => each(&[(0, 0), (1, 1), (2, 0), (3, 0), (31, 1)], |world, at| {
             let (view, place): (usize, usize) = at;
             world.views[view].spare[place] = 1;
         }),
@@ -135,11 +135,24 @@ fn views(clause: Clause) -> Vec<World> {
             &[(0, 0), (0, 2), (1, 0), (1, 255), (2, 1), (3, 1), (31, 1)],
             |world, (view, count): (usize, u8)| world.holders[view] = count,
         ),
+        // The views have (3, 0), (4, 1) and (5, 1): 1 to 2, 3, and 3 alone.
+        Clause::ViewReadSize => each(
+            &[(0, 3), (0, 255), (1, 2), (1, 4), (2, 2), (2, 4), (2, 128)],
+            |world, (view, r): (usize, u8)| world.views[view].r = r,
+        ),
         Clause::ViewBeyond => each(
-            &[(3, 1, 0), (3, 0, 1), (31, 1 << 31, 0), (31, 0, 255)],
-            |world, (view, members, f): (usize, u32, u8)| {
+            &[
+                (3, 1, 0, 0),
+                (3, 0, 1, 0),
+                (3, 0, 0, 1),
+                (31, 1 << 31, 0, 0),
+                (31, 0, 255, 0),
+                (31, 0, 0, 255),
+            ],
+            |world, (view, members, f, r): (usize, u32, u8, u8)| {
                 world.views[view].members = members;
                 world.views[view].f = f;
+                world.views[view].r = r;
             },
         ),
         _ => Vec::new(),

@@ -1,6 +1,7 @@
 //! Steps aimed at a given world: each kind with fields that mean something in
 //! it, and steps that only look like some.
 
+use crate::generate::journals::any_read_size;
 use crate::layout::{LAST_CLIENT, LAST_MESSAGE, LAST_SERVER, LAST_VIEW, STEP_SIZE};
 use crate::record::{step_kind, Step};
 use crate::world::{bit, message_kind, phase, Client, World};
@@ -184,5 +185,6 @@ fn new_view(draws: &mut Draws) -> Step {
         1 => n.div_ceil(3),
         _ => n.saturating_sub(1) / 3,
     };
-    Step::new_view(members, f as u8)
+    let r = any_read_size(draws, n, f);
+    Step::sized_view(members, f as u8, r)
 }

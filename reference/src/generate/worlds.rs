@@ -5,6 +5,7 @@
 //! servers hold many keys.
 
 use crate::entry::Entry;
+use crate::generate::journals::permitted_read_size;
 use crate::layout::{CLIENTS, LAST_CLIENT, LAST_MESSAGE, LAST_SERVER, LAST_VIEW, SERVERS, VERSION};
 use crate::premise::faulty_holders;
 use crate::world::{
@@ -99,9 +100,11 @@ fn draw_views(world: &mut World, draws: &mut Draws) {
             _ => draws.between(1, 5),
         };
         let pool = if draws.chance(60) { n.max(6) } else { SERVERS };
+        let f = draws.between(0, (n - 1) / 3);
         world.views[number] = View {
             members: draws.bits(n, pool),
-            f: draws.between(0, (n - 1) / 3) as u8,
+            f: f as u8,
+            r: permitted_read_size(draws, n, f),
             ..View::default()
         };
     }

@@ -9,8 +9,8 @@ use crate::journal::Journal;
 use crate::judge::{log_of, Line};
 use crate::record::Step;
 use crate::rules::{
-    AddsUpViews, CountsAnswers, ForgetsLeftViews, ForgetsOwnCount, Rules, SkipsWriteBack,
-    StartReturnsKey,
+    AddsUpViews, CountsAnswers, EndsReadsEarly, ForgetsLeftViews, ForgetsOwnCount, Rules,
+    SkipsWriteBack, StartReturnsKey,
 };
 
 /// A wrong idea: what it is, how a journal fares under it, and where drawn
@@ -28,7 +28,7 @@ pub struct Idea {
 /// Within so many drawn journals each idea is found out.
 pub const LIMIT: u64 = 2000;
 
-pub const IDEAS: [Idea; 6] = [
+pub const IDEAS: [Idea; 7] = [
     idea::<ForgetsLeftViews>(
         "counting faults only until a quorum has left",
         old_quorum_turns_faulty,
@@ -55,6 +55,11 @@ pub const IDEAS: [Idea; 6] = [
         &RESTARTS,
     ),
     idea::<SkipsWriteBack>("skipping the write-back", second_reader_sees_less, &GLIMPSE),
+    idea::<EndsReadsEarly>(
+        "one exchange below the write size",
+        second_reader_asks_another,
+        &GLIMPSE,
+    ),
 ];
 
 const fn idea<R: Rules>(
@@ -253,4 +258,20 @@ pub fn second_reader_sees_less() -> Journal {
         .then(Step::deliver(3, 9)) // 11
         .then(Step::take(10))
         .then(Step::take(11)) // the second read ends
+}
+
+/// Read size 1 and write size 3. The write has reached server 1 alone; a reader
+/// asks 1, and after it another asks 2.
+pub fn second_reader_asks_another() -> Journal {
+    Journal::sized(0b111, 0, 1)
+        .then(Step::write(1, 7)) // 1
+        .then(Step::deliver(2, 1)) // 2
+        .then(Step::take(2)) // 3, WRITE
+        .then(Step::deliver(1, 3)) // 4
+        .then(Step::read(2)) // 5
+        .then(Step::deliver(1, 5)) // 6
+        .then(Step::take(6))
+        .then(Step::read(3)) // 7
+        .then(Step::deliver(2, 7)) // 8
+        .then(Step::take(8))
 }

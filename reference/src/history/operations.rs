@@ -47,8 +47,8 @@ pub struct Run {
 /// Runs the journal step by step from its fresh world. A refused step takes a
 /// place and does nothing, whatever its bytes.
 pub fn run<R: Rules>(journal: &Journal) -> Run {
-    let mut world =
-        World::fresh(journal.members, journal.f).expect("a journal begins with a fresh world");
+    let mut world = World::fresh(journal.members, journal.f, journal.r)
+        .expect("a journal begins with a fresh world");
     let mut operations: Vec<Operation> = Vec::new();
     let mut open: [Option<usize>; CLIENTS] = [None; CLIENTS];
     for (place, bytes) in journal.steps.iter().enumerate() {

@@ -64,12 +64,12 @@ impl Changed {
 }
 
 impl Library for Changed {
-    fn fresh(&self, image: &mut [u8], members: u32, f: u8) -> u64 {
-        Reference.fresh(image, members, f)
+    fn fresh(&self, image: &mut [u8], members: u32, f: u8, r: u8) -> u64 {
+        Reference.fresh(image, members, f, r)
     }
 
-    fn quorum(&self, n: u32, f: u32) -> u64 {
-        Reference.quorum(n, f)
+    fn quorum(&self, n: u32, f: u32, r: u32) -> u64 {
+        Reference.quorum(n, f, r)
     }
 
     fn step(&self, image: &mut [u8], step: &[u8]) -> u64 {
@@ -106,10 +106,11 @@ impl Library for Changed {
         image: &mut [u8],
         members: u32,
         f: u8,
+        r: u8,
         journal: &[u8],
         shorter: &mut [u8],
     ) -> u64 {
-        let answer = Reference.shorten(image, members, f, journal, shorter);
+        let answer = Reference.shorten(image, members, f, r, journal, shorter);
         (self.short)(answer, image, shorter);
         answer
     }

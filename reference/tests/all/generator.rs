@@ -46,7 +46,7 @@ fn a_replay_does_what_single_steps_do() {
             let mut drawn = journal::<Sound>(seed, profile);
             drawn.steps.retain(|step| step.len() == STEP_SIZE);
             let mut one = vec![0; IMAGE_SIZE];
-            operations::fresh(&mut one, drawn.members, drawn.f).unwrap();
+            operations::fresh(&mut one, drawn.members, drawn.f, drawn.r).unwrap();
             let mut other = one.clone();
             let replayed = operations::replay(&mut one, &drawn.bytes());
             let accepted = drawn
@@ -137,7 +137,7 @@ fn used_fields(operation: Operation) -> &'static [(Field, bool)] {
         Operation::Deliver => &[(Who, true), (Message, true)],
         Operation::Take => &[(Message, true)],
         Operation::FalseAnswer => &[(Who, true), (View, true), (Message, true), (Source, true)],
-        Operation::NewView => &[(F, false), (Value, false)],
+        Operation::NewView => &[(Who, false), (F, false), (Value, false)],
         _ => &[],
     }
 }
@@ -181,7 +181,7 @@ fn own_refusals(operation: Operation) -> Vec<Reason> {
             NoNumber,
         ],
         Operation::GiveUp => vec![ClientIdle],
-        Operation::NewView => vec![EndingAlready, SizeRule, LastView, NoNumber],
+        Operation::NewView => vec![EndingAlready, SizeRule, ReadSize, LastView, NoNumber],
         _ => vec![],
     }
 }
@@ -219,7 +219,7 @@ fn single_paths() -> Vec<(Operation, Reason)> {
         ),
         (
             Operation::Administrator,
-            &[EndingAlready, SizeRule, LastView, NothingEnding],
+            &[EndingAlready, SizeRule, ReadSize, LastView, NothingEnding],
         ),
     ];
     machines
@@ -285,7 +285,9 @@ fn every_path() -> BTreeSet<(Operation, Reason)> {
     let mut paths = BTreeSet::from([
         (Operation::Fresh, Reason::ImageLength),
         (Operation::Fresh, Reason::SizeRule),
+        (Operation::Fresh, Reason::ReadSize),
         (Operation::Quorum, Reason::SizeRule),
+        (Operation::Quorum, Reason::ReadSize),
         (Operation::OtherKind, Reason::ImageLength),
         (Operation::OtherKind, Reason::StepLength),
         (Operation::OtherKind, Reason::Unreadable),
@@ -307,6 +309,7 @@ fn every_path() -> BTreeSet<(Operation, Reason)> {
         (Operation::Shorten, Reason::TooManySteps),
         (Operation::Shorten, Reason::ShorterLength),
         (Operation::Shorten, Reason::SizeRule),
+        (Operation::Shorten, Reason::ReadSize),
         (Operation::Shorten, Reason::NoStop),
         (Operation::Resume, Reason::ImageLength),
         (Operation::Resume, Reason::JournalLength),
@@ -373,6 +376,7 @@ fn every_deed() -> BTreeSet<Deed> {
     deeds.remove(&Deed::Closed(Close::ReadOfRead));
     deeds.extend([
         Deed::OneExchange,
+        Deed::WroteBackOne,
         Deed::WroteBack(Differ::Stamp),
         Deed::WroteBack(Differ::Value),
     ]);

@@ -42,7 +42,7 @@ fn an_open_phase_becomes_idle_and_only_the_largest_count_stays() {
 
 #[test]
 fn an_idle_client_is_12_after_3() {
-    let mut world = World::fresh(0b1, 0).unwrap();
+    let mut world = World::fresh(0b1, 0, 0).unwrap();
     assert_eq!(act(&mut world, Step::give_up(1)), Err(Reason::ClientIdle));
     assert_eq!(number(act(&mut world, Step::give_up(0))), 3);
     assert_eq!(number(act(&mut world, Step::give_up(17))), 3);

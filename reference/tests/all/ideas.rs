@@ -2,19 +2,20 @@
 
 use reference::history::ideas::{
     faulty_server_answers_often, old_quorum_turns_faulty, one_of_each_view,
-    retired_server_starts_again, second_reader_sees_less, stamp_given_again, Idea, IDEAS, LIMIT,
+    retired_server_starts_again, second_reader_asks_another, second_reader_sees_less,
+    stamp_given_again, Idea, IDEAS, LIMIT,
 };
 use reference::history::verdict::examine;
 use reference::premise::premise;
 use reference::rules::{
-    AddsUpViews, CountsAnswers, ForgetsLeftViews, ForgetsOwnCount, Rules, SkipsWriteBack, Sound,
-    StartReturnsKey,
+    AddsUpViews, CountsAnswers, EndsReadsEarly, ForgetsLeftViews, ForgetsOwnCount, Rules,
+    SkipsWriteBack, Sound, StartReturnsKey,
 };
 
 #[test]
-fn there_are_six() {
+fn there_are_seven() {
     let names: Vec<&str> = IDEAS.iter().map(|idea| idea.name).collect();
-    assert_eq!(names.len(), 6);
+    assert_eq!(names.len(), 7);
 }
 
 #[test]
@@ -62,6 +63,7 @@ fn each_flag_alone_does_it() {
     assert!(violates::<StartReturnsKey>(&retired_server_starts_again()));
     assert!(violates::<SkipsWriteBack>(&second_reader_sees_less()));
     assert!(violates::<ForgetsOwnCount>(&stamp_given_again()));
+    assert!(violates::<EndsReadsEarly>(&second_reader_asks_another()));
     // Another flag does not.
     assert!(!violates::<AddsUpViews>(&faulty_server_answers_often()));
     assert!(!violates::<CountsAnswers>(&one_of_each_view()));

@@ -29,7 +29,7 @@ fn input_that_is_no_session() {
     // Another form comes before a broken size rule.
     let world = Journal::new(0, 0).input();
     assert_eq!(run(&world), "done 0 8\n");
-    for place in [0, 1, 2, 4, 5, 6, 7] {
+    for place in [0, 2, 4, 5, 6, 7] {
         let mut other = world.clone();
         other[place] = 1;
         assert_eq!(run(&other), "done 0 3\n", "byte {place}");
@@ -59,6 +59,7 @@ fn sessions_by_hand() {
     let expected = [
         ("worked", "1 W 1 1 7\n2 R 1 1 7\ndone 8 5\n"),
         ("write-back", "1 W 1 1 7\n2 R 1 1 7\ndone 18 0\n"),
+        ("two-sizes", "1 W 1 1 7\n2 R 1 1 7\n2 R 1 1 7\ndone 39 0\n"),
         (
             "one-exchange",
             "1 W 1 1 1500\n2 R 1 1 1500\n2 R 1 1 1500\ndone 38 0\n",
@@ -94,6 +95,10 @@ fn sessions_by_hand() {
         ("first-of-other-kind", "done 0 3\n"),
         ("no-members", "done 0 8\n"),
         ("too-few-members", "done 0 8\n"),
+        ("first-with-read-size", "1 W 1 1 7\n2 R 1 1 7\ndone 8 5\n"),
+        ("first-with-view", "done 0 3\n"),
+        ("read-size-too-large", "done 0 8\n"),
+        ("read-size-too-small", "done 0 8\n"),
         ("world-alone", "done 0 0\n"),
     ];
     for (name, output) in expected {

@@ -150,7 +150,7 @@ fn header_ranges() {
     assert!(!still(|world| world.header.ending = 0));
     assert!(!still(|world| world.header.end = 0));
     assert!(!still(|world| world.header.version = 0));
-    let fresh = World::fresh(0b1, 0).unwrap();
+    let fresh = World::fresh(0b1, 0, 0).unwrap();
     assert!(readable(&fresh) && fresh.header.used == 0);
 }
 

@@ -27,7 +27,7 @@ fn filled(mut world: World) -> World {
 }
 
 fn fresh() -> World {
-    World::fresh(0b1111, 1).unwrap()
+    World::fresh(0b1111, 1, 0).unwrap()
 }
 
 /// The refusal of the step on the world.
@@ -69,12 +69,12 @@ fn lengths_come_first() {
         assert_eq!(operations::premise(&other), Err(Reason::ImageLength));
         assert_eq!(operations::replay(&mut other, &step).refusal(), 1);
         assert_eq!(
-            operations::fresh(&mut other, 0b1, 0),
+            operations::fresh(&mut other, 0b1, 0, 0),
             Err(Reason::ImageLength)
         );
         // A wrong length comes before a broken size rule.
         assert_eq!(
-            operations::fresh(&mut other, 0, 0),
+            operations::fresh(&mut other, 0, 0, 0),
             Err(Reason::ImageLength)
         );
         assert_eq!(other, before);
@@ -134,7 +134,7 @@ fn steps_with_used_fields() -> [(Step, &'static [Field]); 8] {
             Step::false_answer(32, 32, 1023, 1023),
             &[Who, View, Message, Source],
         ),
-        (Step::new_view(u32::MAX, 255), &[F, Value]),
+        (Step::sized_view(u32::MAX, 255, 255), &[Who, F, Value]),
         (Step::give_up(16), &[Who]),
     ]
 }
@@ -177,6 +177,8 @@ fn a_used_field_is_in_range() {
         for field in used {
             let (below, above) = match field {
                 Field::Who if matches!(step.kind, 1 | 2 | 8) => (Some(0), Some(17)),
+                // Any read size: 8 judges it.
+                Field::Who if step.kind == 7 => (None, None),
                 Field::Who | Field::View => (Some(0), Some(33)),
                 Field::Message => (Some(0), Some(1024)),
                 Field::Source => (None, Some(1024)),
@@ -357,6 +359,10 @@ fn new_view() {
     let world = fresh();
     assert_eq!(refused(&world, Step::new_view(0, 0)), Reason::SizeRule);
     assert_eq!(refused(&world, Step::new_view(0b111, 1)), Reason::SizeRule);
+    for r in [2, 4, 255] {
+        let step = Step::sized_view(0b1111, 1, r);
+        assert_eq!(refused(&world, step), Reason::ReadSize);
+    }
     assert_eq!(
         refused(&filled(world.clone()), Step::new_view(0, 0)),
         Reason::SizeRule
@@ -413,13 +419,13 @@ fn a_refused_fresh_world_leaves_the_buffer() {
     for (members, f) in [(0, 0), (0b111, 1), (u32::MAX, 11), (u32::MAX, 255)] {
         let mut image = [7; IMAGE_SIZE];
         assert_eq!(
-            operations::fresh(&mut image, members, f),
+            operations::fresh(&mut image, members, f, 0),
             Err(Reason::SizeRule)
         );
         assert_eq!(image, [7; IMAGE_SIZE]);
     }
     let mut image = [7; IMAGE_SIZE];
-    assert_eq!(operations::fresh(&mut image, u32::MAX, 10), Ok(()));
+    assert_eq!(operations::fresh(&mut image, u32::MAX, 10, 0), Ok(()));
 }
 
 #[test]

@@ -14,11 +14,12 @@ use reference::xorshift::Draws;
 /// with the same refusal, lose it with any single step, and be a part of the
 /// journal in the same sequence.
 fn short(journal: &Journal) -> Shortened {
-    let fresh = World::fresh(journal.members, journal.f).unwrap();
+    let fresh = World::fresh(journal.members, journal.f, journal.r).unwrap();
     let bytes = journal.bytes();
     let mut image = vec![7; IMAGE_SIZE];
     let mut buffer = vec![7; bytes.len()];
-    let steps = shorten(&mut image, journal.members, journal.f, &bytes, &mut buffer).unwrap();
+    let Journal { members, f, r, .. } = *journal;
+    let steps = shorten(&mut image, members, f, r, &bytes, &mut buffer).unwrap();
     assert!(image == image_of(&fresh)[..]);
     let short = shortened(&fresh, &bytes).unwrap();
     let end = steps * STEP_SIZE;
@@ -95,12 +96,12 @@ fn lengths_then_8_then_15() {
     let call = |image: usize, members: u32, journal: &[u8], buffer: usize| {
         let mut image = vec![7; image];
         let mut buffer = vec![7; buffer];
-        let answer = shorten(&mut image, members, 0, journal, &mut buffer);
+        let answer = shorten(&mut image, members, 0, 0, journal, &mut buffer);
         assert!(buffer.iter().all(|byte| *byte == 7), "the buffer stays");
         if answer != Err(Reason::NoStop) {
             assert!(image.iter().all(|byte| *byte == 7), "the image stays");
         } else {
-            let fresh = World::fresh(members, 0).unwrap();
+            let fresh = World::fresh(members, 0, 0).unwrap();
             assert!(image == image_of(&fresh)[..], "the fresh world");
         }
         answer
@@ -124,8 +125,8 @@ fn as_many_steps_as_may_be() {
     // Steps of any bytes may be in it: the first stops the replay.
     let journal = Journal {
         members: 0b1,
-        f: 0,
         steps: vec![vec![0xff; STEP_SIZE]; STEPS],
+        ..Journal::default()
     };
     assert_eq!(short(&journal).journal, [0xff; STEP_SIZE]);
 }

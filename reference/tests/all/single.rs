@@ -91,7 +91,7 @@ fn a_server_lies_where_a_false_answer_is_accepted() {
 fn closes(deed: Deed) -> bool {
     match deed {
         Deed::Closed(close) => close != Close::End,
-        Deed::OneExchange | Deed::WroteBack(_) => true,
+        Deed::OneExchange | Deed::WroteBack(_) | Deed::WroteBackOne => true,
         _ => false,
     }
 }
@@ -159,6 +159,7 @@ fn the_administrator_does_what_new_view_and_a_closing_end_do() {
         let view = View {
             members: record.value,
             f: record.f,
+            r: record.who,
             ..View::default()
         };
         let asked = match (kind, outcome) {

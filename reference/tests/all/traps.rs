@@ -403,7 +403,7 @@ fn trap_12_deliver_refuses_start_neither_with_6_nor_with_10() {
 
 #[test]
 fn trap_13_message_and_source_come_before_the_server() {
-    let mut world = World::fresh(0b1, 0).unwrap();
+    let mut world = World::fresh(0b1, 0, 0).unwrap();
     let lie = Step::false_answer;
     assert_eq!(number(act(&mut world, lie(1, 1, 1, 0))), 5);
     act(&mut world, Step::read(1)).unwrap();
@@ -421,7 +421,7 @@ fn trap_13_message_and_source_come_before_the_server() {
 
 #[test]
 fn trap_14_any_f_and_value_are_in_range() {
-    let mut world = World::fresh(0b1, 0).unwrap();
+    let mut world = World::fresh(0b1, 0, 0).unwrap();
     for (members, f) in [(u32::MAX, 255), (u32::MAX, 11), (0, 0), (0, 255), (1, 86)] {
         assert_eq!(number(act(&mut world, Step::new_view(members, f))), 8);
     }
@@ -449,7 +449,7 @@ fn trap_14_view_32_is_the_last() {
 
 #[test]
 fn trap_15_an_unused_field_comes_before_the_state() {
-    let mut world = World::fresh(0b1, 0).unwrap();
+    let mut world = World::fresh(0b1, 0, 0).unwrap();
     act(&mut world, Step::read(1)).unwrap();
     assert_eq!(number(act(&mut world, Step::read(1))), 4);
     assert_eq!(
@@ -491,7 +491,7 @@ fn trap_16_beside_a_refusal_other_results_are_0() {
         Reference.step(&mut image.clone()[..], &Step::read(1).bytes()),
         4
     );
-    assert_eq!(Reference.quorum(3, 1), 8);
+    assert_eq!(Reference.quorum(3, 1, 0), 8);
     assert_eq!(Reference.premise(&[]), 1);
     assert_eq!(Reference.premise(&[0; IMAGE_SIZE]), 2);
     // But for the count of a replay.
@@ -502,8 +502,8 @@ fn trap_16_beside_a_refusal_other_results_are_0() {
         pack(4, 1)
     );
     // Without a refusal they stand beside 0.
-    assert_eq!(Reference.quorum(4, 1), pack(0, 3));
-    let fresh = image_of(&World::fresh(0b1, 0).unwrap());
+    assert_eq!(Reference.quorum(4, 1, 0), pack(0, 3 + 256 * 3));
+    let fresh = image_of(&World::fresh(0b1, 0, 0).unwrap());
     assert_eq!(Reference.premise(&fresh[..]), pack(0, 1));
     assert_eq!(Reference.premise(&image[..]), pack(0, 0));
 }
@@ -566,7 +566,7 @@ fn trap_20_the_pending_view_is_recorded() {
 #[test]
 fn trap_21_bytes_of_the_fresh_world() {
     let mut image = [0xee; IMAGE_SIZE];
-    operations::fresh(&mut image, 0x8000_0002, 0).unwrap();
+    operations::fresh(&mut image, 0x8000_0002, 0, 0).unwrap();
     let mut expected = [0; IMAGE_SIZE];
     expected[0] = 3; // version
     expected[4] = 1; // newest view

@@ -54,7 +54,7 @@ fn the_answer_is_the_full_counts() {
         for seed in 0..12 {
             let mut drawn = journal::<Sound>(seed, profile);
             drawn.steps.retain(|step| step.len() == STEP_SIZE);
-            let fresh = World::fresh(drawn.members, drawn.f).unwrap();
+            let fresh = World::fresh(drawn.members, drawn.f, drawn.r).unwrap();
             let bytes = drawn.bytes();
             let (first, _) = watched(&fresh, &bytes);
             assert_eq!(first, counted(&fresh, &bytes), "{} {seed}", profile.name);
@@ -66,7 +66,7 @@ fn the_answer_is_the_full_counts() {
 
 #[test]
 fn by_a_fault_and_by_a_start() {
-    let fresh = World::fresh(0b1111, 1).unwrap();
+    let fresh = World::fresh(0b1111, 1, 0).unwrap();
     let by_fault = Journal::new(0b1111, 1)
         .then(Step::fault(1))
         .then(Step::read(1))
@@ -87,7 +87,7 @@ fn by_a_fault_and_by_a_start() {
 
 #[test]
 fn beside_a_stop_too() {
-    let fresh = World::fresh(0b1, 0).unwrap();
+    let fresh = World::fresh(0b1, 0, 0).unwrap();
     let journal = Journal::new(0b1, 0)
         .then(Step::read(1))
         .then(Step::fault(1))
@@ -101,7 +101,7 @@ fn beside_a_stop_too() {
 
 #[test]
 fn a_premise_that_fails_at_the_start_is_named_with_the_first_step() {
-    let mut world = World::fresh(0b1, 0).unwrap();
+    let mut world = World::fresh(0b1, 0, 0).unwrap();
     step::<Sound>(&mut world, &Step::fault(1)).unwrap();
     assert_eq!(watched(&world, &[]), (0, 0));
     assert_eq!(watched(&world, &Step::fault(1).bytes()), (0, 6));
@@ -111,7 +111,7 @@ fn a_premise_that_fails_at_the_start_is_named_with_the_first_step() {
 
 #[test]
 fn one_and_two_write_nothing() {
-    let world = World::fresh(0b1, 0).unwrap();
+    let world = World::fresh(0b1, 0, 0).unwrap();
     let call = |image: &[u8], journal: &[u8], length: usize| {
         let mut after = image.to_vec();
         let mut first = vec![0xff; length];

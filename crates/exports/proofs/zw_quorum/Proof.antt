@@ -18,8 +18,17 @@ enum-known-size-2 c = search needs
 cast-result-2 : tie.Need-cast-result-2
 cast-result-2 c = search needs
 
+cast-result-3 : tie.Need-cast-result-3
+cast-result-3 c = search needs
+
 mul-result : tie.Need-mul-result
 mul-result c = search needs
+
+add-result : tie.Need-add-result
+add-result c = search needs
+
+mul-result-2 : tie.Need-mul-result-2
+mul-result-2 c = search needs
 
 returns : tie.Need-returns
 returns c = rw (sym (c .before .before .before .quorum-size .ensures), c .before .size .given .1)
@@ -28,4 +37,17 @@ returns-2 : tie.Need-returns-2
 returns-2 c = rw (sym (c .before .before .before .quorum-size .ensures), c .before .size2 .given .1)
 
 pub zw-quorum-spec : {M : Type 1} → statement M
-zw-quorum-spec = tie.close (tie.spec quorum-size-requires enum-known-size cast-result enum-known-size-2 cast-result-2 mul-result returns returns-2)
+zw-quorum-spec =
+    tie.close
+    (tie.spec
+    quorum-size-requires
+    enum-known-size
+    cast-result
+    enum-known-size-2
+    cast-result-2
+    cast-result-3
+    mul-result
+    add-result
+    mul-result-2
+    returns
+    returns-2)

@@ -22,7 +22,7 @@ enum-known-answer-2 c = search needs
 mul-result : tie.Need-mul-result
 mul-result c =
     let a = c .before .before .before .before .before .before .before .before .before .before .before .before .before .args in
-    omega (arith, short-journal (a .image .now) (a .members) (a .f) (a .journal .now) (a .shorter .now) _ (sym (c .before .before .before .before .before .before .before .shorten .ensures .answer) ∙ ap shortens (c .before .answer2 .given .1)) .most)
+    omega (arith, short-journal (a .image .now) (a .members) (a .f) (a .r) (a .journal .now) (a .shorter .now) _ (sym (c .before .before .before .before .before .before .before .shorten .ensures .answer) ∙ ap shortens (c .before .answer2 .given .1)) .most)
 
 same-length : tie.Need-same-length
 same-length c = search needs

@@ -106,13 +106,13 @@ among-ranged low high (m ∷ ns) n r e =
 
 -- ---- the rules
 
-pub quorum-refuses : (n f : ℕ) → Refuses (8 ∷ []) (quorumSize n f)
+pub quorum-refuses : (n f r : ℕ) → Refuses (8 ∷ []) (quorumSize n f r)
 unfolding quorumSize
-quorum-refuses n f = refuses-guard _ _ _ _ refl (refuses-done _ _)
+quorum-refuses n f r = refuses-guard _ _ _ _ refl (refuses-done _ _)
 
-pub fresh-refuses : (bits f : ℕ) → Refuses (8 ∷ []) (fresh bits f)
+pub fresh-refuses : (bits f r : ℕ) → Refuses (8 ∷ []) (fresh bits f r)
 unfolding fresh
-fresh-refuses bits f = refuses-guard _ _ _ _ refl (refuses-done _ _)
+fresh-refuses bits f r = refuses-guard _ _ _ _ refl (refuses-done _ _)
 
 start-refuses : (a : Server) (m : Message) (member : Bool) → Refuses (5 ∷ 6 ∷ 7 ∷ []) (start a m member)
 start-refuses a m member =

@@ -17,7 +17,7 @@ use Rattle.protocol.specs.Servers.{READ, WRITE, END, START, ANSWER}
 use Rattle.protocol.specs.Clients.{WRITES, READS, number, isIdle, requestOf, begin, giveUp, closeSize, toWrite, givenBy, Close, writeNext, completeWith, once, closeBy, close, isEnding, endOf, call, advance}
 use Rattle.protocol.specs.Worlds.{World, noClient, view, server, client, message, newest, present, room, withClient, withView, withMessage, withAdministrator, send, nextNumber}
 use Rattle.protocol.specs.Chains.{enough, shown, agreed}
-use Rattle.protocol.specs.Steps.{After, moved, request, begins, link, open?, takenWith, closes, starts, takes, take, newView, givesUp, deliver, fault, lie, fieldsFit, writeStep, readStep, deliverStep, takeStep, faultStep, falseStep, viewStep, giveUpStep, rowOf, viewAsked, step}
+use Rattle.protocol.specs.Steps.{After, moved, request, begins, link, open?, takenWith, atOnce, closes, starts, takes, take, newView, givesUp, deliver, fault, lie, fieldsFit, writeStep, readStep, deliverStep, takeStep, faultStep, falseStep, viewStep, giveUpStep, rowOf, viewAsked, step}
 use Rattle.protocol.specs.Laws.Tests.{and-left, and-right, or-cases, clash, within-true, went}
 use Rattle.protocol.specs.Laws.Sizes.{covered}
 use Rattle.protocol.specs.Laws.Worlds.{content, sent, sent-link, client-same, client-other, view-same, view-other, length-replace}
@@ -364,7 +364,7 @@ module _ {w : World} (h : Sound w) {k r t : ℕ} (y : Taking w k r t) where
 
   -- a phase of client c closes with the chosen entry
   closes-lawful : (c : ℕ) → (sent w r .kind ≡ END → ⊥) → requestOf (client w c .phase) ≡ r → enough w t (takenWith w k) (closeSize (client w c .phase) (view w t)) ≡ true
-      → (a : After) → closes w k c (chosen (shown w t (takenWith w k))) (agreed w t (takenWith w k)) ≡ done a → (kind : ℕ) → Lawful w (a .world) (a .completed) 0 kind
+      → (a : After) → closes w k c (chosen (shown w t (takenWith w k))) (atOnce w t (takenWith w k)) ≡ done a → (kind : ℕ) → Lawful w (a .world) (a .completed) 0 kind
   unfolding closes close
   closes-lawful c ne o en a e kind =
       let g = went _ _ _ e in
@@ -393,21 +393,22 @@ module _ {w : World} (h : Sound w) {k r t : ℕ} (y : Taking w k r t) where
           (ap (λ (z : Close). z .client .entry) d) (ap (λ (z : Close). z .client .given) d) (close-votes y _ en) (close-chosen y) kind)
 
       go : (p : Phase) → client w c .phase ≡ p → requestOf p ≡ r → enough w t (takenWith w k) (closeSize p (view w t)) ≡ true → (x : Close)
-          → closeBy p (client w c) c e′ (agreed w t (takenWith w k)) (nextNumber w) ≡ done x → if (x .complete) (done (record { world = withClient (link w k) c (x .client); completed = c }))
+          → closeBy p (client w c) c e′ (atOnce w t (takenWith w k)) (nextNumber w) ≡ done x → if (x .complete) (done (record { world = withClient (link w k) c (x .client); completed = c }))
           (guard (room w) 10 (moved (send (withClient (link w k) c (x .client)) (request WRITE c 0 (x .client .entry))))) ≡ done a
           → Lawful w (a .world) (a .completed) 0 kind
       go Idle p o en x f e = refused-done f
-      go (Reading q) p o en x f e = either (once (client w c) (agreed w t (takenWith w k))) refl f
+      go (Reading q) p o en x f e = either (once (client w c) (atOnce w t (takenWith w k))) refl f
         where
-          exchange : (once (client w c) (agreed w t (takenWith w k))) ≡ true → x ≡ completeWith (client w c) e′
+          exchange : (once (client w c) (atOnce w t (takenWith w k))) ≡ true → x ≡ completeWith (client w c) e′
               → Lawful w (a .world) (a .completed) 0 kind
           exchange b d =
+              let once? = and-right (eqb (client w c .kind) READS) _ b in
               subst (λ (z : After). Lawful w (z .world) (z .completed) 0 kind) (done-is (rw (ap (λ (z : Close). z .complete) d) at e))
               (exchanged-lawful i (x .client) r (p ∙ ap Reading (as-number o)) (eqb-true _ _ (and-left _ _ b)) (ap (λ (z : Close). z .client .phase) d) (ap (λ (z : Close). z .client .given) d)
               (subst (Agreed w r) (sym (ap (λ (z : Close). z .client .entry) d))
-              (record { tag = t; votes = close-agreed y _ en (and-right (eqb (client w c .kind) READS) _ b); covers = covered (view w t); chosen = close-chosen y; other = ne })) kind)
+              (record { tag = t; votes = close-agreed y _ en (and-left _ _ once?); covers = covered (view w t) (and-right (agreed w t (takenWith w k)) _ once?); chosen = close-chosen y; other = ne })) kind)
 
-          either : (b : Bool) → (once (client w c) (agreed w t (takenWith w k))) ≡ b
+          either : (b : Bool) → (once (client w c) (atOnce w t (takenWith w k))) ≡ b
               → if b (done (completeWith (client w c) e′)) (writeNext (client w c) c e′ (nextNumber w)) ≡ done x
               → Lawful w (a .world) (a .completed) 0 kind
           either true b f = exchange b (is-done f)
@@ -449,13 +450,13 @@ module _ {w : World} (h : Sound w) {k r t : ℕ} (y : Taking w k r t) where
       ends z o false b e = stays e
 
       closing : (message w r .kind ≡ END → ⊥) → requestOf (client w (message w r .sender) .phase) ≡ r → (b : Bool) → enough w t (takenWith w k) (closeSize (client w (message w r .sender) .phase) (view w t)) ≡ b
-          → if b (closes w k (message w r .sender) (chosen (shown w t (takenWith w k))) (agreed w t (takenWith w k))) (moved (link w k)) ≡ done a → Lawful w (a .world) (a .completed) 0 kind
+          → if b (closes w k (message w r .sender) (chosen (shown w t (takenWith w k))) (atOnce w t (takenWith w k))) (moved (link w k)) ≡ done a → Lawful w (a .world) (a .completed) 0 kind
       closing n o true b e = closes-lawful (message w r .sender) n o b a e kind
       closing n o false b e = stays e
 
       go : (b : Bool) → eqb (message w r .kind) END ≡ b → if b (eqb (endOf (w .administrator .ending)) r) (eqb (requestOf (client w (message w r .sender) .phase)) r) ≡ true
           → if b (if (eqb t (newest w) && enough w t (takenWith w k) (writeSize (view w t))) (starts w k (chosen (shown w t (takenWith w k)))) (moved (link w k)))
-          (if (enough w t (takenWith w k) (closeSize (client w (message w r .sender) .phase) (view w t))) (closes w k (message w r .sender) (chosen (shown w t (takenWith w k))) (agreed w t (takenWith w k))) (moved (link w k))) ≡ done a
+          (if (enough w t (takenWith w k) (closeSize (client w (message w r .sender) .phase) (view w t))) (closes w k (message w r .sender) (chosen (shown w t (takenWith w k))) (atOnce w t (takenWith w k))) (moved (link w k))) ≡ done a
           → Lawful w (a .world) (a .completed) 0 kind
       go true b o e = ends (eqb-true _ _ b) (eqb-true _ _ o) _ refl e
       go false b o e = closing (eqb-false _ _ b) (eqb-true _ _ o) _ refl e

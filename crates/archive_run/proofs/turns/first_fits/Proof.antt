@@ -17,11 +17,7 @@ returns-3 c = simp (eq-eqb _ _ (c .before .before .before .before .if1 .left), e
 
 returns-4 : tie.Need-returns-4
 unfolding firstFits
-returns-4 c = simp (eq-eqb _ _ (c .before .before .before .before .before .before .if1 .left), eq-eqb _ _ (c .before .before .before .before .if2 .left), eq-eqb _ _ (c .before .before .if3 .left), ne-eqb _ _ (c .if4 .taken))
-
-returns-5 : tie.Need-returns-5
-unfolding firstFits
-returns-5 c = simp (eq-eqb _ _ (c .before .before .before .before .before .before .before .if1 .left), eq-eqb _ _ (c .before .before .before .before .before .if2 .left), eq-eqb _ _ (c .before .before .before .if3 .left), eq-eqb _ _ (c .before .if4 .left))
+returns-4 c = simp (eq-eqb _ _ (c .before .before .before .before .before .if1 .left), eq-eqb _ _ (c .before .before .before .if2 .left), eq-eqb _ _ (c .before .if3 .left))
 
 pub first-fits-spec : {M : Type 1} → statement M
-first-fits-spec = tie.close (tie.spec returns returns-2 returns-3 returns-4 returns-5)
+first-fits-spec = tie.close (tie.spec returns returns-2 returns-3 returns-4)

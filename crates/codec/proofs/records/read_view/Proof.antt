@@ -9,9 +9,12 @@ get32-requires c κs = search needs
 shared-slice-read-t5 : tie.Need-shared-slice-read-t5
 shared-slice-read-t5 c = search needs
 
+shared-slice-read-t7 : tie.Need-shared-slice-read-t7
+shared-slice-read-t7 c = search needs
+
 returns : tie.Need-returns
 unfolding viewOf
-returns c = rw (c .before .get32 .ensures)
+returns c = rw (c .before .before .get32 .ensures)
 
 pub read-view-spec : {M : Type 1} → statement M
-read-view-spec = tie.close (tie.spec get32-requires shared-slice-read-t5 returns)
+read-view-spec = tie.close (tie.spec get32-requires shared-slice-read-t5 shared-slice-read-t7 returns)

@@ -18,6 +18,12 @@ add-put8 c = search needs
 put8-requires : tie.Need-put8-requires
 put8-requires c κs = search needs
 
+add-put8-2 : tie.Need-add-put8-2
+add-put8-2 c = search needs
+
+put8-requires-2 : tie.Need-put8-requires-2
+put8-requires-2 c κs = search needs
+
 add-put-zeros : tie.Need-add-put-zeros
 add-put-zeros c = search needs
 
@@ -30,10 +36,10 @@ same-length c = search needs
 returns : tie.Need-returns
 unfolding viewBytes
 returns c =
-    let a = c .before .before .before .before .before .before .before .before .before .before .before .before .before .before .args in
-    (wrote _ _ (wrote _ _ (wrote _ _ (wrote-none (a .image .now) (a .at) (omega arith)) (c .before .before .before .before .before .before .before .before .before .before .put32 .ensures) refl) (c .before .before .before .before .before .before .put8 .ensures) refl) (c .before .before .put-zeros .ensures) refl .all)
+    let a = c .before .before .before .before .before .before .before .before .before .before .before .before .before .before .before .before .before .before .args in
+    (wrote _ _ (wrote _ _ (wrote _ _ (wrote _ _ (wrote-none (a .image .now) (a .at) (omega arith)) (c .before .before .before .before .before .before .before .before .before .before .before .before .before .before .put32 .ensures) refl) (c .before .before .before .before .before .before .before .before .before .before .put8 .ensures) refl) (c .before .before .before .before .before .before .put82 .ensures) refl) (c .before .before .put-zeros .ensures) refl .all)
 
 pub write-view-spec : {M : Type 1} → statement M
 write-view-spec =
     tie.close
-    (tie.spec add-put32 put32-requires add-put8 put8-requires add-put-zeros put-zeros-requires same-length returns)
+    (tie.spec add-put32 put32-requires add-put8 put8-requires add-put8-2 put8-requires-2 add-put-zeros put-zeros-requires same-length returns)

@@ -3,8 +3,8 @@ use borrow.Author.Needs.{needs}
 use Rattle.loads.proofs.steps.drawn_places.Statement.{statement}
 use Rattle.loads.proofs.steps.drawn_places.Tie as tie
 
-who-used-requires : tie.Need-who-used-requires
-who-used-requires c κs = search needs
+who-named-requires : tie.Need-who-named-requires
+who-named-requires c κs = search needs
 
 who-range-requires : tie.Need-who-range-requires
 who-range-requires c κs = search needs
@@ -31,7 +31,7 @@ pub drawn-places-spec : {M : Type 1} → statement M
 drawn-places-spec =
     tie.close
     (tie.spec
-    who-used-requires
+    who-named-requires
     who-range-requires
     drawn-byte-requires
     uses-requires

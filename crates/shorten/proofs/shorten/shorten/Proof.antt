@@ -28,12 +28,12 @@ returns-2 : tie.Need-returns-2
 returns-2 c = search (not-fresh, needs) depth 7 fits 4000
 
 reduce-requires : tie.Need-reduce-requires
-reduce-requires c κs = (
-  search (lent-fresh, needs) depth 7 fits 4000,
-  search (lent-begins, needs) depth 7 fits 4000,
-  search (lent-whole, needs) depth 7 fits 4000,
-  search (lent-same, needs) depth 7 fits 4000,
-)
+reduce-requires c κs =
+    let c1 = c .before .before .before .before .before .before .before in
+    let a = c1 .before .before .before .before .before .before .before .args in
+    let whole = lent-whole (a .image .now) (a .journal .now) (a .shorter .now) _ (c1 .before .lent-well .ensures) (c1 .if1 .left) in
+    let same = lent-same (a .image .now) (a .journal .now) (a .shorter .now) _ (c1 .before .lent-well .ensures) (c1 .if1 .left) in
+    (search (lent-fresh, needs) depth 7 fits 4000, search (lent-begins, needs) depth 7 fits 4000, whole, same)
 
 same-length-5 : tie.Need-same-length-5
 same-length-5 c = search needs

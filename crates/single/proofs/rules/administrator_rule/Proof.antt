@@ -28,12 +28,16 @@ returns-5 : tie.Need-returns-5
 unfolding administratorRule guard
 returns-5 c = rw (ne-eqb _ _ (c .before .before .before .before .before .before .before .before .if1 .left), eq-eqb _ _ (c .before .before .before .before .before .before .before .if2 .left), eq-eqb _ _ (c .before .before .before .before .before .if3 .left), eq-eqb _ _ (c .before .before .if4 .left), ne-eqb _ _ (c .if5 .taken))
 
+returns-6 : tie.Need-returns-6
+unfolding administratorRule guard
+returns-6 c = rw (ne-eqb _ _ (c .before .before .before .before .before .before .before .before .before .before .if1 .left), eq-eqb _ _ (c .before .before .before .before .before .before .before .before .before .if2 .left), eq-eqb _ _ (c .before .before .before .before .before .before .before .if3 .left), eq-eqb _ _ (c .before .before .before .before .if4 .left), eq-eqb _ _ (c .before .before .if5 .left), ne-eqb _ _ (c .if6 .taken))
+
 advance-rule-requires : tie.Need-advance-rule-requires
 advance-rule-requires c κs = search needs
 
-returns-6 : tie.Need-returns-6
+returns-7 : tie.Need-returns-7
 unfolding administratorRule guard
-returns-6 c = rw (ne-eqb _ _ (c .before .before .before .before .before .before .before .before .before .if1 .left), eq-eqb _ _ (c .before .before .before .before .before .before .before .before .if2 .left), eq-eqb _ _ (c .before .before .before .before .before .before .if3 .left), eq-eqb _ _ (c .before .before .before .if4 .left), eq-eqb _ _ (c .before .if5 .left)) (c .advance-rule .ensures)
+returns-7 c = rw (ne-eqb _ _ (c .before .before .before .before .before .before .before .before .before .before .before .if1 .left), eq-eqb _ _ (c .before .before .before .before .before .before .before .before .before .before .if2 .left), eq-eqb _ _ (c .before .before .before .before .before .before .before .before .if3 .left), eq-eqb _ _ (c .before .before .before .before .before .if4 .left), eq-eqb _ _ (c .before .before .before .if5 .left), eq-eqb _ _ (c .before .if6 .left)) (c .advance-rule .ensures)
 
 pub administrator-rule-spec : {M : Type 1} → statement M
-administrator-rule-spec = tie.close (tie.spec call-rule-requires returns returns-2 returns-3 returns-4 returns-5 advance-rule-requires returns-6)
+administrator-rule-spec = tie.close (tie.spec call-rule-requires returns returns-2 returns-3 returns-4 returns-5 returns-6 advance-rule-requires returns-7)

@@ -1,7 +1,5 @@
-use native.Mathlib.Omega.{arith}
 use borrow.Author.Needs.{needs}
-use Rattle.protocol.specs.Sizes.{quorum, readSize}
-use Rattle.values.specs.Sizes.{size-le}
+use Rattle.values.specs.Sizes.{size-low, read-is}
 use Rattle.values.proofs.sizes.read_size.Statement.{statement}
 use Rattle.values.proofs.sizes.read_size.Tie as tie
 
@@ -11,15 +9,14 @@ size-of-requires c κs = search needs
 cast-f : tie.Need-cast-f
 cast-f c = search needs
 
-add-result : tie.Need-add-result
-add-result c = omega (arith, size-le (c .before .before .args .v))
+cast-r : tie.Need-cast-r
+cast-r c = search needs
 
-add-result-2 : tie.Need-add-result-2
-add-result-2 c = omega (arith, size-le (c .before .before .args .v))
+read-of-requires : tie.Need-read-of-requires
+read-of-requires c κs = search (size-low, needs)
 
 returns : tie.Need-returns
-unfolding readSize quorum
-returns c = simp (c .before .size-of .ensures)
+returns c = search (read-is, needs)
 
 pub read-size-spec : {M : Type 1} → statement M
-read-size-spec = tie.close (tie.spec size-of-requires cast-f add-result add-result-2 returns)
+read-size-spec = tie.close (tie.spec size-of-requires cast-f cast-r read-of-requires returns)

@@ -1,7 +1,5 @@
-use Prim.Native.Nat.{_^_}
 use borrow.Author.Needs.{needs}
-use borrow.Author.Tests.{lt-ltb, le-leb, lt-leb}
-use Rattle.protocol.specs.Sizes.{sized}
+use Rattle.values.specs.Sizes.{size-low, sized-is}
 use Rattle.values.proofs.sizes.sized.Statement.{statement}
 use Rattle.values.proofs.sizes.sized.Tie as tie
 
@@ -11,29 +9,14 @@ size-of-requires c κs = search needs
 cast-f : tie.Need-cast-f
 cast-f c = search needs
 
+cast-r : tie.Need-cast-r
+cast-r c = search needs
+
+size-rule-requires : tie.Need-size-rule-requires
+size-rule-requires c κs = search (size-low, needs)
+
 returns : tie.Need-returns
-unfolding sized
-returns c =
-    simp (
-      lt-leb _ _ (c .if1 .taken),
-      ← c .before .before .size-of .ensures,
-      lt-ltb (c .before .before .before .args .v .members .0) (2 ^ 32) (search needs),
-    )
-
-mul-result : tie.Need-mul-result
-mul-result c = search needs
-
-add-result : tie.Need-add-result
-add-result c = search needs
-
-returns-2 : tie.Need-returns-2
-unfolding sized
-returns-2 c =
-    simp (
-      le-leb _ _ (c .if1 .left),
-      ← c .before .before .size-of .ensures,
-      lt-ltb (c .before .before .before .args .v .members .0) (2 ^ 32) (search needs),
-    )
+returns c = search (sized-is, needs)
 
 pub sized-spec : {M : Type 1} → statement M
-sized-spec = tie.close (tie.spec size-of-requires cast-f returns mul-result add-result returns-2)
+sized-spec = tie.close (tie.spec size-of-requires cast-f cast-r size-rule-requires returns)

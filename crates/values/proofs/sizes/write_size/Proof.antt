@@ -1,7 +1,5 @@
-use native.Mathlib.Omega.{arith}
 use borrow.Author.Needs.{needs}
-use Rattle.protocol.specs.Sizes.{quorum, writeSize}
-use Rattle.values.specs.Sizes.{size-le}
+use Rattle.values.specs.Sizes.{size-low, write-is}
 use Rattle.values.proofs.sizes.write_size.Statement.{statement}
 use Rattle.values.proofs.sizes.write_size.Tie as tie
 
@@ -11,15 +9,14 @@ size-of-requires c κs = search needs
 cast-f : tie.Need-cast-f
 cast-f c = search needs
 
-add-result : tie.Need-add-result
-add-result c = omega (arith, size-le (c .before .before .args .v))
+cast-r : tie.Need-cast-r
+cast-r c = search needs
 
-add-result-2 : tie.Need-add-result-2
-add-result-2 c = omega (arith, size-le (c .before .before .args .v))
+write-of-requires : tie.Need-write-of-requires
+write-of-requires c κs = search (size-low, needs)
 
 returns : tie.Need-returns
-unfolding writeSize quorum
-returns c = simp (c .before .size-of .ensures)
+returns c = search (write-is, needs)
 
 pub write-size-spec : {M : Type 1} → statement M
-write-size-spec = tie.close (tie.spec size-of-requires cast-f add-result add-result-2 returns)
+write-size-spec = tie.close (tie.spec size-of-requires cast-f cast-r write-of-requires returns)

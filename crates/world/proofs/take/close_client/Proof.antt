@@ -14,8 +14,8 @@ load-used-requires c κs = search needs
 load-client-requires : tie.Need-load-client-requires
 load-client-requires c κs = search needs
 
-add-t15 : tie.Need-add-t15
-add-t15 c =
+add-t16 : tie.Need-add-t16
+add-t16 c =
     let c1 = c .before .before .before .before .before in
     omega (arith, c .before .before .load-used .ensures, used-low (c1 .pre .0 .legible))
 
@@ -55,8 +55,8 @@ returns c =
     let c4 = c3 .before .before .before in
     let a = c4 .args in
     let p = c4 .pre in
-    let e = close-known (p .0 .legible) (a .c) (p .1) (p .2) _ _ (a .x .entry) (a .x .one) _ (c2 .load-client .ensures) (c3 .load-used .ensures) (c1 .close .ensures) in
-    refuses _ _ (a .image .now) _ refl (close-refused (decode (a .image .now)) (a .k .0) (a .c) (a .x .entry) (a .x .one) _ (sym e ∙ ap closing (c .before .closing .given .1)))
+    let e = close-known (p .0 .legible) (a .c) (p .1) (p .2) _ _ (a .e) (a .one) _ (c2 .load-client .ensures) (c3 .load-used .ensures) (c1 .close .ensures) in
+    refuses _ _ (a .image .now) _ refl (close-refused (decode (a .image .now)) (a .k .0) (a .c) (a .e) (a .one) _ (sym e ∙ ap closing (c .before .closing .given .1)))
 
 same-length-2 : tie.Need-same-length-2
 same-length-2 c = search needs
@@ -70,8 +70,8 @@ returns-2 c =
     let c5 = c4 .before .before .before in
     let a = c5 .args in
     let p = c5 .pre in
-    let e = close-known (p .0 .legible) (a .c) (p .1) (p .2) _ _ (a .x .entry) (a .x .one) _ (c3 .load-client .ensures) (c4 .load-used .ensures) (c2 .close .ensures) in
-    by (close-writes (decode (a .image .now)) (a .k .0) (a .c) (a .x .entry) (a .x .one) _ (sym e ∙ ap closing (c1 .closing2 .given .1))) (c .before .before .write-next .ensures)
+    let e = close-known (p .0 .legible) (a .c) (p .1) (p .2) _ _ (a .e) (a .one) _ (c3 .load-client .ensures) (c4 .load-used .ensures) (c2 .close .ensures) in
+    by (close-writes (decode (a .image .now)) (a .k .0) (a .c) (a .e) (a .one) _ (sym e ∙ ap closing (c1 .closing2 .given .1))) (c .before .before .write-next .ensures)
 
 same-length-3 : tie.Need-same-length-3
 same-length-3 c = search needs
@@ -86,8 +86,8 @@ returns-3 c =
     let c6 = c5 .before .before .before in
     let a = c6 .args in
     let p = c6 .pre in
-    let e = close-known (p .0 .legible) (a .c) (p .1) (p .2) _ _ (a .x .entry) (a .x .one) _ (c4 .load-client .ensures) (c5 .load-used .ensures) (c3 .close .ensures) in
-    does (a .c) _ (a .image .now) _ _ (close-complete (decode (a .image .now)) (a .k .0) (a .c) (a .x .entry) (a .x .one) _ (sym e ∙ ap closing (c2 .closing3 .given .1)))
+    let e = close-known (p .0 .legible) (a .c) (p .1) (p .2) _ _ (a .e) (a .one) _ (c4 .load-client .ensures) (c5 .load-used .ensures) (c3 .close .ensures) in
+    does (a .c) _ (a .image .now) _ _ (close-complete (decode (a .image .now)) (a .k .0) (a .c) (a .e) (a .one) _ (sym e ∙ ap closing (c2 .closing3 .given .1)))
     (complete-put (p .0) (a .c) _ (p .1) (p .2) (c1 .link .ensures) (c .before .before .store-client .ensures))
 
 pub close-client-spec : {M : Type 1} → statement M
@@ -96,7 +96,7 @@ close-client-spec =
     (tie.spec
     load-used-requires
     load-client-requires
-    add-t15
+    add-t16
     close-requires
     enum-known-closing
     enum-known-closing-2

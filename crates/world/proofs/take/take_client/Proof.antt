@@ -2,7 +2,7 @@ use borrow.Author.Needs.{needs}
 use Rattle.protocol.specs.Steps.{link}
 use Rattle.codec.specs.Images.{decode}
 use Rattle.world.specs.Stored.{does, by}
-use Rattle.world.specs.Takes.{view-low, size-known, client-open, client-closed}
+use Rattle.world.specs.Takes.{view-low, size-known, once-known, client-open, client-closed}
 use Rattle.world.proofs.take.take_client.Statement.{statement}
 use Rattle.world.proofs.take.take_client.Tie as tie
 
@@ -56,9 +56,12 @@ returns c =
     does 0 (link w (a .k .0)) (a .image .now) _ _
     (client-open w (a .k .0) (c2 .taken-with .result) (c3 .close-size .result) (c2 .taken-with .ensures) (a .c) s (c1 .enum-told .given .1)) (c .before .before .link .ensures)
 
+at-once-requires : tie.Need-at-once-requires
+at-once-requires c κs = search needs
+
 close-client-requires : tie.Need-close-client-requires
 close-client-requires c κs =
-    let c1 = c .before .before .before .before .before .before .before .before .before .before .before .before .before .before .before in
+    let c1 = c .before .before .before .before .before .before .before .before .before .before .before .before .before .before .before .before in
     c1 .pre
 
 same-length-2 : tie.Need-same-length-2
@@ -66,7 +69,8 @@ same-length-2 c = search needs
 
 returns-2 : tie.Need-returns-2
 returns-2 c =
-    let c1 = c .before .before .before .before .before in
+    let c0 = c .before .before .before .before in
+    let c1 = c0 .before .before in
     let c2 = c1 .before .before in
     let c3 = c2 .before .before in
     let c4 = c3 .before in
@@ -76,8 +80,9 @@ returns-2 c =
     let a = c7 .args in
     let p = c7 .pre in
     let s = size-known (p .0) (a .c) (p .1) (p .2) _ _ _ _ (c6 .load-message .ensures) (c5 .load-view .ensures) (c4 .load-client .ensures) (c3 .close-size .ensures) in
+    let o = once-known (p .0) _ _ (c1 .x .given .0 .0 .one) _ (c6 .load-message .ensures) (c5 .load-view .ensures) (c0 .at-once .ensures) in
     by
-    (client-closed (decode (a .image .now)) (a .k .0) (c2 .taken-with .result) (c3 .close-size .result) (c2 .taken-with .ensures) (a .c) s _ (c1 .x .given .1))
+    (client-closed (decode (a .image .now)) (a .k .0) (c2 .taken-with .result) (c3 .close-size .result) (c2 .taken-with .ensures) (a .c) s _ (c1 .x .given .1) _ o)
     (c .before .before .close-client .ensures)
 
 pub take-client-spec : {M : Type 1} → statement M
@@ -94,6 +99,7 @@ take-client-spec =
     link-requires
     same-length
     returns
+    at-once-requires
     close-client-requires
     same-length-2
     returns-2)
