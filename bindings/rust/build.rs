@@ -4,18 +4,24 @@
 use std::env;
 use std::path::PathBuf;
 
+const ARCHIVE: &str = "libexports.a";
+
 fn main() {
-    println!("cargo:rerun-if-env-changed=ZEMAWULO_LIB");
+    println!("cargo::rerun-if-env-changed=ZEMAWULO_LIB");
     let folder = env::var_os("ZEMAWULO_LIB")
         .map(PathBuf::from)
         .unwrap_or_else(|| PathBuf::from("../../target/staticlib"));
-    let Ok(folder) = folder.canonicalize() else {
-        panic!("no such folder: {}", folder.display());
-    };
-    println!(
-        "cargo:rerun-if-changed={}",
-        folder.join("libexports.a").display()
-    );
-    println!("cargo:rustc-link-search=native={}", folder.display());
-    println!("cargo:rustc-link-lib=static=exports");
+    let archive = folder.join(ARCHIVE);
+    println!("cargo::rerun-if-changed={}", archive.display());
+    match folder.canonicalize() {
+        Ok(whole) if archive.is_file() => {
+            println!("cargo::rustc-link-search=native={}", whole.display());
+            println!("cargo::rustc-link-lib=static=exports");
+        }
+        _ => println!(
+            "cargo::error=The proved library {ARCHIVE} is not in {}. Make it with `rt staticlib exports` at the root of \
+             the project, or set ZEMAWULO_LIB to the folder that holds it.",
+            folder.display()
+        ),
+    }
 }

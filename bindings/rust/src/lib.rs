@@ -1,182 +1,50 @@
-//! Safe functions over the proved archive register: a world of servers, views,
-//! clients and messages in an image of 21,744 bytes, moved by steps of 12 bytes.
-//! `docs/LAYOUT.md` has every byte of both, and of all else. The library tests all that it is
-//! given, so no call here has a condition.
+//! A register for an archive that outlives its servers: types over the proved
+//! library. A world of servers, views, clients and messages lies in an [`Image`]
+//! and is moved by one [`Step`] at a time; what its rules forbid is refused with
+//! a [`Refusal`]. Every answer comes from the library; the types here name its
+//! bytes. Nothing panics, and there is no dependency.
+//!
+//! ```
+//! use zemawulo::{Image, Step, World};
+//!
+//! // Client 1 files 7 on the only server; client 2 reads it in one exchange.
+//! let mut image = Image::fresh(World { members: [1].into_iter().collect(), f: 0, r: 0 })?;
+//! let journal = Step::journal(&[
+//!     Step::Write { client: 1, value: 7 },
+//!     Step::Deliver { server: 1, message: 1 },
+//!     Step::Take { message: 2 },
+//!     Step::Deliver { server: 1, message: 3 },
+//!     Step::Take { message: 4 },
+//!     Step::Read { client: 2 },
+//!     Step::Deliver { server: 1, message: 5 },
+//!     Step::Take { message: 6 },
+//! ]);
+//! let replayed = image.replay(&journal);
+//! assert_eq!((replayed.steps, replayed.stop), (8, None));
+//! assert_eq!(image.client(2).map(|client| client.entry().value()), Some(7));
+//! # Ok::<(), zemawulo::Refusal>(())
+//! ```
+//!
+//! [`bytes`] has every call of the C interface on lent bytes.
+#![deny(missing_docs)]
+#![warn(clippy::all)]
 
+pub mod bytes;
+mod entry;
+mod image;
+mod lists;
+pub mod machines;
+mod numbers;
 mod raw;
+mod records;
+mod refusal;
+mod step;
 
-/// Bytes of an image, a step, and the records and calls of single machines.
-pub const IMAGE: usize = 21_744;
-pub const STEP: usize = 12;
-pub const SERVER: usize = 20;
-pub const CLIENT: usize = 20;
-pub const ADMINISTRATOR: usize = 4;
-pub const SERVER_CALL: usize = 24;
-pub const CLIENT_CALL: usize = 17;
-pub const ADMINISTRATOR_CALL: usize = 12;
-
-/// Bytes of the number that a watched replay writes.
-const FIRST: usize = 8;
-
-/// Bytes of a line of a log, of its number in an order, of an entry, and of an
-/// answer without a signature.
-pub const LOG_LINE: usize = 20;
-pub const ORDER_LINE: usize = 2;
-pub const ENTRY: usize = 12;
-pub const ANSWER: usize = 16;
-
-/// The lines of a log that is judged and the steps of a journal that is
-/// shortened, at most.
-pub const LOG_LINES: usize = 256;
-pub const SHORTEN_STEPS: usize = 512;
-
-/// Why a call was refused: its number, 1 to 16, as `zemawulo.h` has them. A refusal
-/// changes no byte, but for the fresh world that 15 of `shorten` leaves.
-#[derive(Clone, Copy, Debug, PartialEq, Eq)]
-pub struct Refusal(pub u8);
-
-/// What a replay did, and the refusal that stopped it, if one did. The steps are
-/// exact below 2^56.
-#[derive(Clone, Copy, Debug, PartialEq, Eq)]
-pub struct Replayed {
-    pub steps: u64,
-    pub stop: Option<Refusal>,
-}
-
-fn refusal(answer: u64) -> Option<Refusal> {
-    match (answer % 256) as u8 {
-        0 => None,
-        number => Some(Refusal(number)),
-    }
-}
-
-fn result(answer: u64) -> Result<u64, Refusal> {
-    match refusal(answer) {
-        None => Ok(answer / 256),
-        Some(refusal) => Err(refusal),
-    }
-}
-
-/// How many servers close READ, and how many WRITE and END.
-#[derive(Clone, Copy, Debug, PartialEq, Eq)]
-pub struct Sizes {
-    pub read: u32,
-    pub write: u32,
-}
-
-/// Makes the fresh world of these members, bit s-1 for server s, f and read size
-/// r, 0 for a quorum.
-pub fn fresh(image: &mut [u8], members: u32, f: u8, r: u8) -> Result<(), Refusal> {
-    result(raw::fresh(image, members, f, r)).map(|_| ())
-}
-
-/// Both sizes of n servers with threshold f and read size r.
-pub fn quorum(n: u32, f: u32, r: u32) -> Result<Sizes, Refusal> {
-    result(raw::quorum(n, f, r)).map(|sizes| Sizes {
-        read: (sizes % 256) as u32,
-        write: (sizes / 256) as u32,
-    })
-}
-
-/// One step. Gives the number of the client whose operation it completed.
-pub fn step(image: &mut [u8], step: &[u8]) -> Result<Option<u8>, Refusal> {
-    let client = result(raw::step(image, step))?;
-    Ok((client != 0).then_some(client as u8))
-}
-
-/// Whether no view has more faulty servers with its key than its threshold.
-pub fn premise(image: &[u8]) -> Result<bool, Refusal> {
-    result(raw::premise(image)).map(|holds| holds == 1)
-}
-
-fn replayed(answer: u64) -> Replayed {
-    Replayed {
-        steps: answer / 256,
-        stop: refusal(answer),
-    }
-}
-
-/// The steps of a journal up to the first that is refused.
-pub fn replay(image: &mut [u8], journal: &[u8]) -> Replayed {
-    replayed(raw::replay(image, journal))
-}
-
-/// The rest of a journal, up to the first step that is refused: its steps but
-/// the first ones, which were done before on this image. Refused with 1 if it
-/// has fewer. `Replayed::steps` counts the steps done now.
-pub fn resume(image: &mut [u8], journal: &[u8], steps: u64) -> Replayed {
-    replayed(raw::resume(image, journal, steps))
-}
-
-/// A replay, and the first step after which some view has more faulty servers
-/// with its key than its threshold, or 0; beside a stop too.
-pub fn watch(image: &mut [u8], journal: &[u8]) -> (Replayed, u64) {
-    let mut first = [0; FIRST];
-    let answer = raw::watch(image, journal, &mut first);
-    (replayed(answer), u64::from_le_bytes(first))
-}
-
-/// Writes the load of a seed and a number of steps, 12 bytes a step. Refused with
-/// 1 if the journal has another length.
-pub fn load(journal: &mut [u8], seed: u32, steps: u32) -> Result<(), Refusal> {
-    result(raw::load(journal, seed, steps)).map(|_| ())
-}
-
-/// Judges a log of lines of 20 bytes. Gives the number of operations of an order;
-/// `order`, 2 bytes a line, then has their lines' numbers, zero after them.
-/// Refused with 13 if no order exists.
-pub fn judge(log: &[u8], order: &mut [u8]) -> Result<u64, Refusal> {
-    result(raw::judge(log, order))
-}
-
-/// The short journal behind the refusal that stops the replay of a journal from
-/// the fresh world of these members, f and r. Gives the number of its steps;
-/// `shorter`, as long as the journal, begins with them and is zero after them.
-/// When done, and after 15, the image holds the fresh world.
-pub fn shorten(
-    image: &mut [u8],
-    members: u32,
-    f: u8,
-    r: u8,
-    journal: &[u8],
-    shorter: &mut [u8],
-) -> Result<u64, Refusal> {
-    result(raw::shorten(image, members, f, r, journal, shorter))
-}
-
-/// Chooses among entries without a signature: of those that at least b+1 of the n
-/// servers show, the one with the largest stamp, written to `entry`.
-pub fn vouch(answers: &[u8], n: u32, b: u32, entry: &mut [u8]) -> Result<(), Refusal> {
-    result(raw::vouch(answers, n, b, entry)).map(|_| ())
-}
-
-/// The same for thresholds: the largest permitted b plus 1 in place of b+1, and
-/// an entry is dropped if that many servers show larger stamps.
-pub fn vouch_threshold(
-    answers: &[u8],
-    n: u32,
-    b: u32,
-    largest: u32,
-    entry: &mut [u8],
-) -> Result<(), Refusal> {
-    result(raw::vouch_threshold(answers, n, b, largest, entry)).map(|_| ())
-}
-
-/// A server's rule on its record. True if a message that reached it (rule 3) is
-/// answered, with the view and entry of its record. A false answer (rule 6) that
-/// is not refused is false: the record stays, and shows nothing of it.
-pub fn server(server: &mut [u8], call: &[u8]) -> Result<bool, Refusal> {
-    result(raw::server(server, call)).map(|answers| answers == 1)
-}
-
-/// A client's rule on its record: it begins, closes a phase or gives up. The last
-/// byte of a close is 1 if all answers carry the entry. True if the operation is
-/// complete.
-pub fn client(client: &mut [u8], call: &[u8]) -> Result<bool, Refusal> {
-    result(raw::client(client, call)).map(|complete| complete == 1)
-}
-
-/// The administrator's rule on its record.
-pub fn administrator(administrator: &mut [u8], call: &[u8]) -> Result<(), Refusal> {
-    result(raw::administrator(administrator, call)).map(|_| ())
-}
+pub use bytes::{quorum, Replayed, Sizes};
+pub use entry::Entry;
+pub use image::{load, shorten, Image, LAST_CLIENT, LAST_MESSAGE, LAST_SERVER, LAST_VIEW};
+pub use lists::{judge, vouch, vouch_threshold, Answer, LogLine};
+pub use numbers::Numbers;
+pub use records::{Client, Kind, Message, MessageKind, Phase, Server, View};
+pub use refusal::Refusal;
+pub use step::{Step, World};

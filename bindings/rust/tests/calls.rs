@@ -1,10 +1,11 @@
 //! The watched replay, the load, the judge, the short journal and the choice among entries without a
 //! signature through the safe functions.
 
-use zemawulo::{
-    fresh, judge, load, replay, shorten, vouch, vouch_threshold, watch, Refusal, ANSWER, ENTRY,
-    IMAGE, LOG_LINE, LOG_LINES, ORDER_LINE, SHORTEN_STEPS, STEP,
+use zemawulo::bytes::{
+    fresh, judge, load, replay, shorten, vouch, vouch_threshold, watch, ANSWER, ENTRY, IMAGE,
+    LOG_LINE, LOG_LINES, ORDER_LINE, SHORTEN_STEPS, STEP,
 };
+use zemawulo::Refusal;
 
 fn entry(count: u32, writer: u8, value: u32) -> [u8; ENTRY] {
     let mut bytes = [0; ENTRY];
@@ -17,18 +18,21 @@ fn entry(count: u32, writer: u8, value: u32) -> [u8; ENTRY] {
 #[test]
 fn a_watched_replay() {
     let mut image = [0; IMAGE];
-    fresh(&mut image, 0b1111, 1).unwrap();
+    fresh(&mut image, 0b1111, 1, 0).unwrap();
     let fault = |server| [5, server, 0, 0, 0, 0, 0, 0, 0, 0, 0, 0];
     let journal = [fault(1), fault(2), fault(3), fault(3)].concat();
     let (replayed, first) = watch(&mut image, &journal);
-    assert_eq!((replayed.steps, replayed.stop), (3, Some(Refusal(6))));
-    assert_eq!(first, 2);
+    assert_eq!((replayed.steps, replayed.stop), (3, Some(Refusal::Faulty)));
+    assert_eq!(first, Some(2));
     // The byte of view 1 counts its faulty key holders; another is unreadable.
     assert_eq!(image[272], 3);
     image[272] = 4;
     let (replayed, first) = watch(&mut image, &journal);
-    assert_eq!((replayed.steps, replayed.stop), (0, Some(Refusal(2))));
-    assert_eq!(first, 0);
+    assert_eq!(
+        (replayed.steps, replayed.stop),
+        (0, Some(Refusal::Unreadable))
+    );
+    assert_eq!(first, None);
 }
 
 #[test]
@@ -43,7 +47,7 @@ fn the_first_step_of_a_load() {
     // A false answer of server 16 with view 18 to message 623, source 794.
     assert_eq!(two[STEP..], [6, 16, 18, 0, 111, 2, 26, 3, 0, 0, 0, 0]);
     let before = two;
-    assert_eq!(load(&mut two, 1, 1), Err(Refusal(1)));
+    assert_eq!(load(&mut two, 1, 1), Err(Refusal::Length));
     assert_eq!(two, before);
     assert_eq!(load(&mut [], 5, 0), Ok(()));
 }
@@ -64,15 +68,15 @@ fn logs() {
     assert_eq!(order, [2, 0, 1, 0]);
     // The read ends before the write begins.
     let early = [line(1, 2, 2, entry(1, 1, 7)), line(3, 4, 1, entry(1, 1, 7))].concat();
-    assert_eq!(judge(&early, &mut order), Err(Refusal(13)));
+    assert_eq!(judge(&early, &mut order), Err(Refusal::NoOrder));
     let twice = [line(1, 2, 1, entry(1, 1, 7)), line(2, 3, 1, entry(2, 1, 7))].concat();
-    assert_eq!(judge(&twice, &mut order), Err(Refusal(14)));
-    assert_eq!(judge(&log[1..], &mut order), Err(Refusal(1)));
-    assert_eq!(judge(&log[LOG_LINE..], &mut order), Err(Refusal(1)));
+    assert_eq!(judge(&twice, &mut order), Err(Refusal::Malformed));
+    assert_eq!(judge(&log[1..], &mut order), Err(Refusal::Length));
+    assert_eq!(judge(&log[LOG_LINE..], &mut order), Err(Refusal::Length));
     assert_eq!(order, [2, 0, 1, 0]);
     let long = vec![0; (LOG_LINES + 1) * LOG_LINE];
     let mut orders = vec![0; (LOG_LINES + 1) * ORDER_LINE];
-    assert_eq!(judge(&long, &mut orders), Err(Refusal(14)));
+    assert_eq!(judge(&long, &mut orders), Err(Refusal::Malformed));
 }
 
 #[test]
@@ -89,24 +93,24 @@ fn short_journals() {
     fresh(&mut first, 1, 0, 0).unwrap();
     assert_eq!(image, first);
     let stopped = replay(&mut image, &shorter[..STEP]);
-    assert_eq!((stopped.steps, stopped.stop), (0, Some(Refusal(12))));
+    assert_eq!((stopped.steps, stopped.stop), (0, Some(Refusal::Idle)));
 
     let before = shorter;
     image.fill(7);
     let once = [read, [0; 12]].concat();
     assert_eq!(
         shorten(&mut image, 1, 0, 0, &once[..STEP], &mut shorter),
-        Err(Refusal(1))
+        Err(Refusal::Length)
     );
     assert_eq!(
         shorten(&mut image, 0, 0, 0, &once, &mut shorter),
-        Err(Refusal(8))
+        Err(Refusal::Size)
     );
     assert!(image.iter().all(|&byte| byte == 7));
     let mut room = [7; STEP];
     assert_eq!(
         shorten(&mut image, 1, 0, 0, &read, &mut room),
-        Err(Refusal(15))
+        Err(Refusal::NoRefusal)
     );
     assert_eq!(room, [7; STEP]);
     assert_eq!(image, first);
@@ -115,7 +119,7 @@ fn short_journals() {
     let mut longer = long.clone();
     assert_eq!(
         shorten(&mut image, 1, 0, 0, &long, &mut longer),
-        Err(Refusal(1))
+        Err(Refusal::Length)
     );
 }
 
@@ -142,14 +146,20 @@ fn entries_without_a_signature() {
     room.fill(0);
     assert_eq!(vouch_threshold(&list, 5, 1, 1, &mut room), Ok(()));
     assert_eq!(room, written);
-    assert_eq!(vouch(&list[ANSWER..], 5, 1, &mut room), Err(Refusal(14)));
-    assert_eq!(vouch(&list, 4, 1, &mut room), Err(Refusal(14)));
-    assert_eq!(vouch_threshold(&list, 5, 1, 0, &mut room), Err(Refusal(14)));
-    assert_eq!(vouch(&list[1..], 5, 1, &mut room), Err(Refusal(1)));
-    assert_eq!(vouch(&list, 5, 1, &mut room[1..]), Err(Refusal(1)));
+    assert_eq!(
+        vouch(&list[ANSWER..], 5, 1, &mut room),
+        Err(Refusal::Malformed)
+    );
+    assert_eq!(vouch(&list, 4, 1, &mut room), Err(Refusal::Malformed));
+    assert_eq!(
+        vouch_threshold(&list, 5, 1, 0, &mut room),
+        Err(Refusal::Malformed)
+    );
+    assert_eq!(vouch(&list[1..], 5, 1, &mut room), Err(Refusal::Length));
+    assert_eq!(vouch(&list, 5, 1, &mut room[1..]), Err(Refusal::Length));
     let apart: Vec<u8> = (1..=4)
         .flat_map(|s| answer(s, entry(s.into(), s, 0)))
         .collect();
-    assert_eq!(vouch(&apart, 5, 1, &mut room), Err(Refusal(16)));
+    assert_eq!(vouch(&apart, 5, 1, &mut room), Err(Refusal::Unvouched));
     assert_eq!(room, written);
 }

@@ -1,10 +1,11 @@
 //! The worked session, the marked sizes and each machine's rules through the
 //! safe functions.
 
-use zemawulo::{
-    administrator, client, fresh, premise, quorum, replay, resume, server, step, Refusal, Replayed,
-    Sizes, CLIENT, IMAGE, STEP,
+use zemawulo::bytes::{
+    administrator, client, fresh, premise, quorum, replay, resume, server, step, Replayed, Sizes,
+    CLIENT, IMAGE, STEP,
 };
+use zemawulo::Refusal;
 
 fn step_bytes(kind: u8, who: u8, message: u16, value: u32) -> [u8; 12] {
     let mut bytes = [0; 12];
@@ -74,14 +75,14 @@ fn replay_gives_the_same_image_and_stops_where_it_must() {
     journal.extend_from_slice(&step_bytes(4, 0, 2, 0));
     let stopped = Replayed {
         steps: 8,
-        stop: Some(Refusal(7)),
+        stop: Some(Refusal::NoRule),
     };
     assert_eq!(replay(&mut image, &journal), stopped);
     assert_eq!(image, one_by_one);
     journal.pop();
     let uneven = Replayed {
         steps: 0,
-        stop: Some(Refusal(1)),
+        stop: Some(Refusal::Length),
     };
     assert_eq!(replay(&mut image, &journal), uneven);
 }
@@ -105,7 +106,7 @@ fn the_rest_of_a_journal_leads_to_the_same_end() {
     }
     let first_again = Replayed {
         steps: 0,
-        stop: Some(Refusal(4)),
+        stop: Some(Refusal::Busy),
     };
     let mut image = vec![0; IMAGE];
     fresh(&mut image, 1, 0, 0).unwrap();
@@ -113,7 +114,7 @@ fn the_rest_of_a_journal_leads_to_the_same_end() {
     assert_eq!(resume(&mut image, &journal, 0), first_again);
     let fewer = Replayed {
         steps: 0,
-        stop: Some(Refusal(1)),
+        stop: Some(Refusal::Length),
     };
     for steps in [9, u64::MAX] {
         assert_eq!(resume(&mut whole, &journal, steps), fewer);
@@ -143,7 +144,7 @@ fn marked_sizes() {
         assert_eq!(quorum(n, f, 0), Ok(sizes));
     }
     for (n, f) in [(0, 0), (3, 1), (32, 11), (33, 0), (32, u32::MAX)] {
-        assert_eq!(quorum(n, f, 0), Err(Refusal(8)));
+        assert_eq!(quorum(n, f, 0), Err(Refusal::Size));
     }
 }
 
@@ -154,28 +155,28 @@ fn permitted_read_sizes_of_ten_servers() {
             read: r,
             write: 12 - r,
         });
-        assert_eq!(quorum(10, 1, r), sizes.ok_or(Refusal(8)), "{r}");
+        assert_eq!(quorum(10, 1, r), sizes.ok_or(Refusal::Size), "{r}");
     }
     let mut image = vec![7; IMAGE];
-    assert_eq!(fresh(&mut image, 1023, 1, 2), Err(Refusal(8)));
-    assert_eq!(fresh(&mut image, 1023, 1, 7), Err(Refusal(8)));
+    assert_eq!(fresh(&mut image, 1023, 1, 2), Err(Refusal::Size));
+    assert_eq!(fresh(&mut image, 1023, 1, 7), Err(Refusal::Size));
     assert!(image.iter().all(|&byte| byte == 7));
     assert_eq!(fresh(&mut image, 1023, 1, 3), Ok(()));
     assert_eq!(premise(&image), Ok(true));
     // A read size outside its bounds makes the image unreadable.
     image[21] = 7;
-    assert_eq!(premise(&image), Err(Refusal(2)));
+    assert_eq!(premise(&image), Err(Refusal::Unreadable));
 }
 
 #[test]
 fn refusals_change_no_byte() {
     let mut image = vec![7; IMAGE];
-    assert_eq!(fresh(&mut image, 0, 0, 0), Err(Refusal(8)));
-    assert_eq!(fresh(&mut image[1..], 1, 0, 0), Err(Refusal(1)));
-    assert_eq!(step(&mut image, &[0; 12]), Err(Refusal(2)));
-    assert_eq!(step(&mut image, &[0; 11]), Err(Refusal(1)));
-    assert_eq!(premise(&image), Err(Refusal(2)));
-    assert_eq!(premise(&[]), Err(Refusal(1)));
+    assert_eq!(fresh(&mut image, 0, 0, 0), Err(Refusal::Size));
+    assert_eq!(fresh(&mut image[1..], 1, 0, 0), Err(Refusal::Length));
+    assert_eq!(step(&mut image, &[0; 12]), Err(Refusal::Unreadable));
+    assert_eq!(step(&mut image, &[0; 11]), Err(Refusal::Length));
+    assert_eq!(premise(&image), Err(Refusal::Unreadable));
+    assert_eq!(premise(&[]), Err(Refusal::Length));
     assert!(image.iter().all(|&byte| byte == 7));
 }
 
@@ -196,22 +197,22 @@ fn one_server() {
     assert_eq!(server(&mut record, &end), Ok(true));
     assert_eq!(&record[..8], &[1, 0, 0, 0, 0, 0, 0, 0]);
     let before = record.clone();
-    assert_eq!(server(&mut record, &end), Err(Refusal(7)));
+    assert_eq!(server(&mut record, &end), Err(Refusal::NoRule));
     let start = [4, 0, 2, 0, 0, 0, 0, 0];
     assert_eq!(
         server(&mut record, &asked(3, 0, 0, start, none)),
-        Err(Refusal(7))
+        Err(Refusal::NoRule)
     );
     assert_eq!(
         server(&mut record, &asked(3, 2, 0, start, none)),
-        Err(Refusal(3))
+        Err(Refusal::Range)
     );
     assert_eq!(
         server(&mut record, &asked(3, 1, 1, start, none)),
-        Err(Refusal(3))
+        Err(Refusal::Range)
     );
-    assert_eq!(server(&mut record[1..], &end), Err(Refusal(1)));
-    assert_eq!(server(&mut record, &end[1..]), Err(Refusal(1)));
+    assert_eq!(server(&mut record[1..], &end), Err(Refusal::Length));
+    assert_eq!(server(&mut record, &end[1..]), Err(Refusal::Length));
     assert_eq!(record, before);
     assert_eq!(server(&mut record, &asked(3, 1, 0, start, none)), Ok(false));
     assert_eq!(&record[..8], &[2, 0, 0, 0, 2, 0, 0, 0]);
@@ -226,24 +227,24 @@ fn one_faulty_server() {
     let read = [1, 1, 0, 0, 0, 0, 0, 0];
     assert_eq!(
         server(&mut record, &asked(3, 0, 0, read, none)),
-        Err(Refusal(6))
+        Err(Refusal::Faulty)
     );
     assert_eq!(server(&mut record, &asked(6, 1, 1, read, none)), Ok(false));
     assert_eq!(
         server(&mut record, &asked(6, 0, 1, read, none)),
-        Err(Refusal(5))
+        Err(Refusal::NoMessage)
     );
     assert_eq!(
         server(&mut record, &asked(6, 1, 2, read, none)),
-        Err(Refusal(9))
+        Err(Refusal::NoKey)
     );
     assert_eq!(
         server(&mut record, &asked(6, 1, 0, read, none)),
-        Err(Refusal(3))
+        Err(Refusal::Range)
     );
     assert_eq!(
         server(&mut record, &asked(5, 1, 1, read, none)),
-        Err(Refusal(3))
+        Err(Refusal::Range)
     );
     assert_eq!(record, before);
 }
@@ -266,23 +267,23 @@ fn one_client() {
     let write = asked_of(1, 0, 1, entry(0, 0, 7), 0);
     assert_eq!(client(&mut one, &write), Ok(false));
     assert_eq!(one, record(1, 1, 1, entry(0, 0, 7), 0));
-    assert_eq!(client(&mut one, &write), Err(Refusal(4)));
+    assert_eq!(client(&mut one, &write), Err(Refusal::Busy));
     // A write writes, whether its answers carry one entry or not.
     let close = asked_of(4, 3, 2, entry(5, 2, 9), 1);
     assert_eq!(client(&mut one, &close), Ok(false));
     assert_eq!(one, record(2, 1, 2, entry(6, 3, 7), 6));
     assert_eq!(client(&mut one, &close), Ok(true));
     assert_eq!(one, record(0, 1, 0, entry(6, 3, 7), 6));
-    assert_eq!(client(&mut one, &close), Err(Refusal(7)));
+    assert_eq!(client(&mut one, &close), Err(Refusal::NoRule));
     let read = asked_of(2, 0, 9, none, 0);
     assert_eq!(client(&mut one, &read), Ok(false));
     let full = asked_of(4, 3, 2, entry(u32::MAX, 2, 9), 0);
     assert_eq!(client(&mut one, &full), Ok(false));
     let mut writer = record(1, 1, 1, entry(0, 0, 7), 0);
-    assert_eq!(client(&mut writer, &full), Err(Refusal(11)));
+    assert_eq!(client(&mut writer, &full), Err(Refusal::Count));
     assert_eq!(
         client(&mut one, &asked_of(2, 1, 9, none, 0)),
-        Err(Refusal(3))
+        Err(Refusal::Range)
     );
 }
 
@@ -308,7 +309,7 @@ fn one_client_reads_in_one_exchange() {
         asked_of(8, 0, 0, entry(0, 0, 0), 1),
     ] {
         one = reading.clone();
-        assert_eq!(client(&mut one, &asked), Err(Refusal(3)));
+        assert_eq!(client(&mut one, &asked), Err(Refusal::Range));
         assert_eq!(one, reading);
     }
 }
@@ -320,11 +321,11 @@ fn one_client_gives_up() {
     let mut one = record(2, 1, 2, entry(6, 3, 7), 6);
     assert_eq!(
         client(&mut one, &asked_of(8, 3, 0, none, 0)),
-        Err(Refusal(3))
+        Err(Refusal::Range)
     );
     assert_eq!(client(&mut one, &give_up), Ok(false));
     assert_eq!(one, record(0, 0, 0, none, 6));
-    assert_eq!(client(&mut one, &give_up), Err(Refusal(12)));
+    assert_eq!(client(&mut one, &give_up), Err(Refusal::Idle));
     assert_eq!(
         client(&mut one, &asked_of(1, 0, 9, entry(0, 0, 8), 0)),
         Ok(false)
@@ -333,7 +334,7 @@ fn one_client_gives_up() {
     assert_eq!(client(&mut one, &close), Ok(false));
     assert_eq!(one, record(2, 1, 11, entry(7, 3, 8), 7));
     let mut last = record(1, 1, 1, entry(0, 0, 7), u32::MAX);
-    assert_eq!(client(&mut last, &close), Err(Refusal(11)));
+    assert_eq!(client(&mut last, &close), Err(Refusal::Count));
 }
 
 #[test]
@@ -342,13 +343,13 @@ fn the_administrator() {
     let view = [&[7, 0, 5, 0][..], &[15, 0, 0, 0, 1, 0, 0, 0]].concat();
     let small = [&[7, 0, 5, 0][..], &[7, 0, 0, 0, 1, 0, 0, 0]].concat();
     let close = [&[4, 0, 0, 0][..], &[0; 8]].concat();
-    assert_eq!(administrator(&mut record, &close), Err(Refusal(7)));
-    assert_eq!(administrator(&mut record, &small), Err(Refusal(8)));
+    assert_eq!(administrator(&mut record, &close), Err(Refusal::NoRule));
+    assert_eq!(administrator(&mut record, &small), Err(Refusal::Size));
     assert_eq!(administrator(&mut record, &view), Ok(()));
     assert_eq!(record, [1, 1, 5, 0]);
-    assert_eq!(administrator(&mut record, &view), Err(Refusal(4)));
+    assert_eq!(administrator(&mut record, &view), Err(Refusal::Busy));
     assert_eq!(administrator(&mut record, &close), Ok(()));
     assert_eq!(record, [2, 0, 0, 0]);
-    assert_eq!(administrator(&mut record, &view[1..]), Err(Refusal(1)));
-    assert_eq!(administrator(&mut [1, 0, 5, 0], &view), Err(Refusal(3)));
+    assert_eq!(administrator(&mut record, &view[1..]), Err(Refusal::Length));
+    assert_eq!(administrator(&mut [1, 0, 5, 0], &view), Err(Refusal::Range));
 }
