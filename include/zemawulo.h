@@ -44,7 +44,7 @@ enum zw_refusal {
     ZW_BUSY = 4,        /* client not idle; the newest view is being ended */
     ZW_NO_MESSAGE = 5,  /* no such message, or of the wrong kind */
     ZW_FAULTY = 6,      /* the server is faulty, or is not */
-    ZW_NO_RULE = 7,     /* the rule does not apply */
+    ZW_NO_RULE = 7,     /* the rule does not apply; nothing is being ended */
     ZW_SIZE = 8,        /* size rule broken, a read size outside its bounds, or no view is left */
     ZW_NO_KEY = 9,      /* the server lacks that key */
     ZW_FULL = 10,       /* all message numbers are used */
@@ -71,8 +71,10 @@ uint64_t zw_quorum(uint32_t n, uint32_t f, uint32_t r);
 static inline unsigned zw_read_size_of(uint64_t answer) { return (unsigned)(answer >> 8 & 255); }
 static inline unsigned zw_write_size_of(uint64_t answer) { return (unsigned)(answer >> 16); }
 
-/* One step. Result: the number of the client whose operation it completed, or
- * 0; the operation's entry is in that client's record. Refusals 1 to 12. */
+/* One step, of kind 1 write, 2 read, 3 deliver, 4 take, 5 fault, 6 false answer,
+ * 7 new view, 8 give up or 9 restart of the administrator. Result: the number of
+ * the client whose operation it completed, or 0; the operation's entry is in that
+ * client's record. Refusals 1 to 12. */
 uint64_t zw_step(uint8_t *image, size_t n, const uint8_t *step, size_t m);
 
 /* Whether no view has more faulty servers with its key than its threshold.
@@ -152,7 +154,10 @@ uint64_t zw_server(uint8_t *server, size_t n, const uint8_t *call, size_t m);
  * given up. */
 uint64_t zw_client(uint8_t *client, size_t n, const uint8_t *call, size_t m);
 
-/* The administrator: it calls a new view, or END closes. Result 0. */
+/* The administrator: it calls a new view (rule 7), END closes (rule 4), or it
+ * restarted before END closed (rule 9, with the view that is pending from now on,
+ * or with zeros to leave it as it is; 3, no members but f or r; 7, nothing is
+ * being ended; 8). A restart leaves the record as it is. Result 0. */
 uint64_t zw_administrator(uint8_t *administrator, size_t n, const uint8_t *call, size_t m);
 
 #ifdef __cplusplus

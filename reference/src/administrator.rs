@@ -1,5 +1,5 @@
-//! The rules of the administrator: what a new view and the close of its END
-//! make of the header.
+//! The rules of the administrator: what a new view, a restart and the close of
+//! its END make of the header.
 
 use crate::layout::LAST_VIEW;
 use crate::refusal::Reason;
@@ -19,6 +19,17 @@ pub fn call(header: &Header, pending: &View, end: u16) -> Result<Header, Reason>
         end,
         ..*header
     })
+}
+
+/// It restarted: the header stays. Without members the pending view does too.
+pub fn restart(header: &Header, pending: &View) -> Result<Header, Reason> {
+    if header.ending == 0 {
+        return Err(Reason::NothingEnding);
+    }
+    if pending.members != 0 {
+        pending.size_rule()?;
+    }
+    Ok(*header)
 }
 
 /// The END closes: the pending view becomes the newest.

@@ -15,8 +15,9 @@ pub mod step_kind {
     pub const FALSE_ANSWER: u8 = 6;
     pub const NEW_VIEW: u8 = 7;
     pub const GIVE_UP: u8 = 8;
+    pub const RESTART: u8 = 9;
     /// The last kind there is.
-    pub const LAST: u8 = GIVE_UP;
+    pub const LAST: u8 = RESTART;
 }
 
 #[derive(Clone, Copy, Debug, Default, PartialEq, Eq)]
@@ -73,6 +74,7 @@ const USED: [[Range; 6]; step_kind::LAST as usize] = [
     [SERVER, VIEW, UNUSED, MESSAGE, SOURCE, UNUSED], // false answer
     [ANY, UNUSED, ANY, UNUSED, UNUSED, ANY],       // new view
     [CLIENT, UNUSED, UNUSED, UNUSED, UNUSED, UNUSED], // give up
+    [ANY, UNUSED, ANY, UNUSED, UNUSED, ANY],       // restart
 ];
 
 /// The ranges of a step of this kind, if there is such a kind.
@@ -138,6 +140,14 @@ impl Step {
                 }
                 None if number != 0 => return Err(Reason::Unused(field)),
                 _ => {}
+            }
+        }
+        // A restart without member bits names neither a threshold nor a size.
+        if self.kind == step_kind::RESTART && self.value == 0 {
+            for field in [Field::Who, Field::F] {
+                if self.field(field) != 0 {
+                    return Err(Reason::Unused(field));
+                }
             }
         }
         Ok(())
@@ -218,6 +228,17 @@ impl Step {
         Step {
             kind: step_kind::GIVE_UP,
             who: client,
+            ..Step::default()
+        }
+    }
+
+    /// The administrator restarted; no members leave the pending view as it is.
+    pub fn restart(members: u32, f: u8, r: u8) -> Step {
+        Step {
+            kind: step_kind::RESTART,
+            who: r,
+            f,
+            value: members,
             ..Step::default()
         }
     }

@@ -37,6 +37,8 @@ pub fn sessions() -> Vec<Session> {
         Session::new("write-back", write_back().input()),
         Session::new("one-exchange", one_exchange().input()),
         Session::new("two-sizes", two_sizes().input()),
+        Session::new("restart", restart().input()),
+        Session::new("restart-same-view", restart_same_view().input()),
         Session::new("retired-server", retired_server().input()),
         Session::new("replaced-entry", replaced_entry().input()),
         Session::new("stale-read", stale_read().input()),
@@ -44,8 +46,8 @@ pub fn sessions() -> Vec<Session> {
         Session::new("given-up", given_up().input()),
         Session::new("given-up-surfaces", given_up_surfaces().input()),
         Session::new("many-views", drawn(53, &RUSH).input()),
-        Session::new("many-clients", drawn(54, &STORM).input()),
-        Session::new("full-year", drawn(210, &FULL).input()),
+        Session::new("many-clients", drawn(239, &STORM).input()),
+        Session::new("full-year", drawn(88, &FULL).input()),
         Session::new("full-table", full_table().input()),
         Session::new("empty", Vec::new()),
         Session::new("first-cut-short", worked().input()[..7].to_vec()),
@@ -123,6 +125,58 @@ pub fn two_sizes() -> Journal {
     }
     script.act(Step::read(2));
     script.finish_in_turn(2, &[3, 2]);
+    script.journal
+}
+
+/// Servers 3 to 6 are to follow 1 to 4. 1, 2 and 3 answer END, and all answers
+/// but the last that closes it are taken. Returns the answers.
+fn almost_ended() -> (Script, Vec<u16>) {
+    let mut script = Script::new(0b1111, 1);
+    script.write(1, 7, &[1, 2, 3]);
+    script.read(2, &[1, 2, 3]);
+    script.act(Step::new_view(0b11_1100, 1));
+    let end = script.world.header.end;
+    let answers: Vec<u16> = [1, 2, 3]
+        .into_iter()
+        .map(|server| script.answer(server, end))
+        .collect();
+    script.act(Step::take(answers[0]));
+    script.act(Step::take(answers[1]));
+    (script, answers)
+}
+
+/// The administrator's PC restarts with all answers taken but the last. The next
+/// view is to be of servers 3 to 7 then, with f 0 and read size 2. The answers
+/// are taken again and close END; the read before and the read after are equal.
+pub fn restart() -> Journal {
+    let (mut script, answers) = almost_ended();
+    script.act(Step::restart(0b111_1100, 0, 2));
+    for answer in answers {
+        script.act(Step::take(answer));
+    }
+    let start = script.last();
+    for server in 3..=6 {
+        script.act(Step::deliver(server, start));
+    }
+    script.act(Step::read(2));
+    script.finish_in_turn(2, &[3, 4, 5, 6]);
+    script.journal
+}
+
+/// The same with the pending view as it was, and two restarts, the second of
+/// which finds nothing taken; an answer of server 4 comes late.
+pub fn restart_same_view() -> Journal {
+    let (mut script, answers) = almost_ended();
+    script.act(Step::restart(0, 0, 0));
+    script.act(Step::restart(0, 0, 0));
+    script.exchange(script.world.header.end, &[4]);
+    script.act(Step::take(answers[2]));
+    script.act(Step::take(answers[0]));
+    let start = script.last();
+    for server in [4, 5, 6] {
+        script.act(Step::deliver(server, start));
+    }
+    script.read(2, &[4, 5, 6]);
     script.journal
 }
 
@@ -348,6 +402,16 @@ fn refused_steps() -> Vec<Session> {
                 ..Step::read(1)
             },
         ),
+        (
+            "3-restart-view",
+            ending,
+            Step {
+                view: 1,
+                ..Step::restart(0, 0, 0)
+            },
+        ),
+        ("3-restart-f", ending, Step::restart(0, 1, 0)),
+        ("3-restart-r", ending, Step::restart(0, 0, 3)),
         ("4-busy", busy, Step::write(2, 1)),
         ("4-ending", ending, Step::new_view(0b1, 0)),
         ("5-deliver-unused", begun, Step::deliver(1, 9)),
@@ -364,6 +428,12 @@ fn refused_steps() -> Vec<Session> {
         ("7-not-a-member", changed, Step::deliver(5, start)),
         ("7-taken", busy, Step::take(2)),
         ("7-closed", late, Step::take(9)),
+        ("7-restart", begun, Step::restart(0, 0, 0)),
+        ("7-restart-started", changed, Step::restart(0b1111, 1, 0)),
+        // Nothing is being ended comes before the size rule.
+        ("7-restart-size", begun, Step::restart(0b111, 1, 0)),
+        ("8-restart-size", ending, Step::restart(0b111, 1, 0)),
+        ("8-restart-read-size", ending, Step::restart(0b1111, 0, 3)),
         ("8-size", begun, Step::new_view(0b111, 1)),
         ("8-read-size", begun, Step::sized_view(0b111, 0, 3)),
         ("8-largest-f", begun, Step::new_view(u32::MAX, 255)),

@@ -146,7 +146,7 @@ fn closed(
     }
 }
 
-/// The administrator calls a new view, or its END closes.
+/// The administrator calls a new view, it restarts, or its END closes.
 pub fn administrator_call(record: &mut [u8], asked: &[u8]) -> Result<(), Reason> {
     let bytes: [u8; ADMINISTRATOR_SIZE] = whole(record)?;
     let asked: [u8; ADMINISTRATOR_CALL_SIZE] = whole(asked)?;
@@ -160,6 +160,11 @@ pub fn administrator_call(record: &mut [u8], asked: &[u8]) -> Result<(), Reason>
         step_kind::NEW_VIEW => {
             ask(is_number(number), Reason::CallRange)?;
             administrator::call(&header, &view, number)?
+        }
+        step_kind::RESTART => {
+            let bare = view.members == 0 && (view.f != 0 || view.r != 0);
+            ask(number == 0 && !bare, Reason::CallRange)?;
+            administrator::restart(&header, &view)?
         }
         step_kind::TAKE => {
             ask(number == 0 && view == View::default(), Reason::CallRange)?;

@@ -71,6 +71,8 @@ pub enum Deed {
     Ending,
     /// A client gave its operation up.
     GaveUp,
+    /// The administrator restarted, with a new pending view or the old one.
+    Restarted { renewed: bool },
 }
 
 /// An accepted step: what it did, and the client whose operation it completed,
@@ -108,6 +110,7 @@ pub fn step<R: Rules>(world: &mut World, step: &Step) -> Outcome {
         }
         step_kind::NEW_VIEW => new_view(world, step.value, step.f, step.who),
         step_kind::GIVE_UP => give_up(world, step.who),
+        step_kind::RESTART => restart(world, step.value, step.f, step.who),
         _ => Err(Reason::UnknownKind),
     }
 }
@@ -152,4 +155,28 @@ fn new_view(world: &mut World, members: u32, f: u8, r: u8) -> Outcome {
         ..Message::default()
     });
     Ok(Done::just(Deed::Ending))
+}
+
+/// The administrator restarted: no answer to the open END is taken any more, and
+/// the pending view is a new one if it has members.
+fn restart(world: &mut World, members: u32, f: u8, r: u8) -> Outcome {
+    let pending = View {
+        members,
+        f,
+        r,
+        ..View::default()
+    };
+    world.header = administrator::restart(&world.header, &pending)?;
+    let end = usize::from(world.header.end);
+    let mut next = std::mem::take(&mut world.messages[end].next);
+    while next != 0 {
+        let answer = &mut world.messages[usize::from(next)];
+        answer.taken = 0;
+        next = std::mem::take(&mut answer.next);
+    }
+    let renewed = members != 0;
+    if renewed {
+        world.views[usize::from(world.header.newest)] = pending;
+    }
+    Ok(Done::just(Deed::Restarted { renewed }))
 }

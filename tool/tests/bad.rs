@@ -189,6 +189,24 @@ const LINES: &[(&str, usize, &str)] = &[
     ("new-view members=1,2 f=0 r=", 28, "a number from 0 to 255"),
     ("new-view members=1,2 f=0 r=1 2", 30, "the end of the line"),
     ("give-up client", 9, "`client=`"),
+    (
+        "restart f=1",
+        9,
+        "`members=` and servers as 1,2,3,4, each from 1 to 32, or none, or the end of the line, found `f=1`",
+    ),
+    ("restart members=1,2", 20, "`f=` and a number from 0 to 255"),
+    ("restart members=33 f=0", 17, "servers as 1,2,3,4"),
+    (
+        "restart members=1,2 f=0 q=1",
+        25,
+        "`r=` and a number from 0 to 255, or the end of the line",
+    ),
+    (
+        "restart members=1,2 f=0 r=256",
+        27,
+        "a number from 0 to 255",
+    ),
+    ("restart members=1 f=0 r=1 2", 27, "the end of the line"),
     ("world members=1", 16, "`f=` and a number from 0 to 255"),
     ("raw bytes=00", 11, "24 hexadecimal digits"),
     (

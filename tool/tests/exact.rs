@@ -26,9 +26,11 @@ fn record(draws: &mut Draws, width: usize, kind_at: Option<usize>, kinds: u64) -
 
 /// A step with exactly the fields that its kind uses, of any value.
 fn step(draws: &mut Draws) -> Vec<u8> {
-    let kind = draws.below(9) as u8;
+    let kind = draws.below(10) as u8;
     let used: &[usize] = match kind {
-        0 | 7 => &[1, 3, 8, 9, 10, 11],
+        // One restart of two leaves the pending view as it is.
+        9 if draws.below(2) == 0 => &[],
+        0 | 7 | 9 => &[1, 3, 8, 9, 10, 11],
         1 => &[1, 8, 9, 10, 11],
         2 | 5 | 8 => &[1],
         3 => &[1, 4, 5],
@@ -72,22 +74,27 @@ fn a_thousand_drawn_journals() {
     let here = folder("exact-journals");
     let mut draws = Draws(1);
     let (mut plain, mut raw) = (0, 0);
+    let (mut bare, mut renewed) = (0, 0);
     for _ in 0..1000 {
         let steps = draws.below(40);
         let journal: Vec<u8> = (0..steps)
             .flat_map(|_| match draws.below(2) {
                 0 => step(&mut draws),
-                _ => record(&mut draws, 12, Some(0), 10),
+                _ => record(&mut draws, 12, Some(0), 11),
             })
             .collect();
         let text = both_ways(&here, &[], &journal);
         assert_eq!(text.lines().count() as u64, steps);
         let odd = text.lines().filter(|line| line.starts_with("raw ")).count();
         raw += odd;
+        bare += text.lines().filter(|line| *line == "restart").count();
+        let with = |line: &&str| line.starts_with("restart members=");
+        renewed += text.lines().filter(with).count();
         plain += text.lines().count() - odd;
     }
     // Both forms were met often.
     assert!(plain > 5000 && raw > 5000, "{plain} {raw}");
+    assert!(bare > 300 && renewed > 300, "{bare} {renewed}");
 }
 
 #[test]
@@ -128,6 +135,42 @@ fn a_journal_through_pipes() {
     let text = fed(&here, &["text", "-"], &journal);
     assert_eq!(text.text().lines().count(), 500);
     assert_eq!(fed(&here, &["bytes", "-"], &text.out).out, journal);
+}
+
+#[test]
+fn restarts() {
+    let here = folder("exact-restarts");
+    let record = |r: u8, f: u8, value: u8| [9, r, 0, f, 0, 0, 0, 0, value, 0, 0, 0];
+    for (line, bytes, again) in [
+        ("restart", record(0, 0, 0), "restart"),
+        ("restart members=none f=0", record(0, 0, 0), "restart"),
+        (
+            "restart members=3,4,5 f=1 r=0",
+            record(0, 1, 0b1_1100),
+            "restart members=3,4,5 f=1",
+        ),
+        (
+            "restart members=3,4,5 f=0 r=1",
+            record(1, 0, 0b1_1100),
+            "restart members=3,4,5 f=0 r=1",
+        ),
+        // The library's to refuse.
+        (
+            "restart members=none f=1",
+            record(0, 1, 0),
+            "restart members=none f=1",
+        ),
+        (
+            "restart members=none f=0 r=1",
+            record(1, 0, 0),
+            "restart members=none f=0 r=1",
+        ),
+    ] {
+        let made = fed(&here, &["bytes", "-"], line.as_bytes());
+        assert_eq!(made.out, bytes, "{line}");
+        let text = fed(&here, &["text", "-"], &bytes).text();
+        assert_eq!(text, format!("{again}\n"));
+    }
 }
 
 #[test]

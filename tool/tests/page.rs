@@ -62,6 +62,29 @@ fn the_stale_read_and_what_broke_the_premise() {
 }
 
 #[test]
+fn a_restart() {
+    let here = folder("page-restart");
+    let page = run(&here, &["page", &journal("sessions/restart.in")]).text();
+    let told = data(&page);
+    // Its line; the pending view is another one, and the answers to END are untaken.
+    let line = "{\"text\":\"restart members=3,4,5,6,7 f=0 r=2\",\"refusal\":0,";
+    let (_, rest) = told.split_once(line).expect("its line");
+    let (step, _) = rest.split_once("{\"text\":").expect("a step behind it");
+    for words in [
+        "\"newest\":1,",
+        "{\"number\":2,\"members\":[3,4,5,6,7],\"f\":0,\"r\":2,",
+    ] {
+        assert!(step.contains(words), "{words}: {step}");
+    }
+    assert_eq!(step.matches("\"taken\":false").count(), 3, "{step}");
+    assert!(told.contains("\"stop\":0"));
+    assert!(told.contains("\"verdict\":{\"refusal\":0,\"order\":[0,1,2],\"lost\":0}"));
+    let input = b"world members=1 f=0\nrestart\n";
+    let page = fed(&here, &["page", "--text", "-"], input).text();
+    assert!(data(&page).contains("{\"text\":\"restart\",\"refusal\":7,"));
+}
+
+#[test]
 fn refused_steps() {
     let here = folder("page-refused");
     let input = b"world members=1 f=0\nread client=1\nread client=1\nwrite client=2 value=5\n";

@@ -108,6 +108,9 @@ impl Client {
 /// administrator.call(5, view)?;
 /// assert_eq!(administrator.ending(), Some(5));
 /// assert_eq!(administrator.call(6, view), Err(Refusal::Busy));
+/// // It restarts, and END stays open.
+/// administrator.restart(None)?;
+/// assert_eq!(administrator.ending(), Some(5));
 /// administrator.close()?;
 /// assert_eq!((administrator.newest(), administrator.ending()), (2, None));
 /// # Ok::<(), Refusal>(())
@@ -153,6 +156,16 @@ impl Administrator {
     /// Refused with 3, 4 and 8.
     pub fn call(&mut self, number: u16, view: View) -> Result<(), Refusal> {
         self.asked(7, number, &view.to_bytes())
+    }
+
+    /// It restarted before END closed: no answer is taken any more, and the
+    /// record stays. `view` is the pending view from now on, or none to leave it
+    /// as it is. Refused with 3, 7 (START has been sent, or no END ever was) and 8.
+    pub fn restart(&mut self, view: Option<View>) -> Result<(), Refusal> {
+        match view {
+            Some(view) => self.asked(9, 0, &view.to_bytes()),
+            None => self.asked(9, 0, &[]),
+        }
     }
 
     /// END closes. Refused with 3 and 7.

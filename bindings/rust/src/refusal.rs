@@ -80,7 +80,7 @@ const NAMED: [(Refusal, &str); 16] = [
     ),
     (
         Refusal::NoRule,
-        "the rule does not apply: the server has no key for it, the answer was taken, or nothing waits for it",
+        "the rule does not apply: the server has no key for it, the answer was taken, nothing waits for it, or no view is being ended",
     ),
     (
         Refusal::Size,

@@ -8,7 +8,7 @@ use crate::Numbers;
 /// reading and writing lose nothing.
 ///
 /// ```
-/// use zemawulo::Step;
+/// use zemawulo::{Numbers, Step};
 ///
 /// let step = Step::Write { client: 1, value: 7 };
 /// assert_eq!(step.to_bytes(), [1, 1, 0, 0, 0, 0, 0, 0, 7, 0, 0, 0]);
@@ -16,6 +16,9 @@ use crate::Numbers;
 /// // A field that a write does not use is set.
 /// let odd = [1, 1, 9, 0, 0, 0, 0, 0, 7, 0, 0, 0];
 /// assert_eq!(Step::from_bytes(odd), Step::Raw(odd));
+/// // The administrator restarts, and the pending view stays as it is.
+/// let restart = Step::Restart { members: Numbers::default(), f: 0, r: 0 };
+/// assert_eq!(restart.to_bytes(), [9, 0, 0, 0, 0, 0, 0, 0, 0, 0, 0, 0]);
 /// ```
 #[derive(Clone, Copy, Debug, PartialEq, Eq, Hash)]
 pub enum Step {
@@ -72,6 +75,17 @@ pub enum Step {
     GiveUp {
         /// The client, 1 to 16.
         client: u8,
+    },
+    /// 9: the administrator restarted while it ends a view: no answer to END is
+    /// taken any more. It names the pending view anew, or leaves it as it is.
+    Restart {
+        /// The servers of the pending view, or none: it stays, and then `f` and
+        /// `r` are 0, else 3.
+        members: Numbers,
+        /// Its threshold.
+        f: u8,
+        /// Its read size, 0 for a quorum.
+        r: u8,
     },
     /// Any other record: an unknown kind, or a field set that its kind does not
     /// use. Refused with 3.
@@ -136,6 +150,11 @@ impl Step {
                 r: fields.who,
             },
             8 => Step::GiveUp { client },
+            9 => Step::Restart {
+                members: Numbers::from_bits(fields.value),
+                f: fields.f,
+                r: fields.who,
+            },
             _ => return Step::Raw(bytes),
         };
         // An unused field that is set would be lost.
@@ -172,6 +191,10 @@ impl Step {
                 (fields.f, fields.value) = (f, members.bits());
             }
             Step::GiveUp { client } => (fields.kind, fields.who) = (8, client),
+            Step::Restart { members, f, r } => {
+                (fields.kind, fields.who) = (9, r);
+                (fields.f, fields.value) = (f, members.bits());
+            }
             Step::Raw(bytes) => return bytes,
         }
         fields.bytes()

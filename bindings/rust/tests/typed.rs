@@ -176,6 +176,16 @@ fn one_machine() {
     assert_eq!(administrator.close(), Err(Refusal::NoRule));
     let small = View::new(Numbers::from_bits(0b111), 1, 0);
     assert_eq!(administrator.call(1, small), Err(Refusal::Size));
+    assert_eq!(administrator.restart(None), Err(Refusal::NoRule));
+    let view = View::new(Numbers::from_bits(0b1111), 1, 0);
+    administrator.call(1, view).unwrap();
+    let ending = administrator;
+    assert_eq!(administrator.restart(Some(small)), Err(Refusal::Size));
+    let bare = View::new(Numbers::default(), 1, 0);
+    assert_eq!(administrator.restart(Some(bare)), Err(Refusal::Range));
+    assert_eq!(administrator.restart(Some(view)), Ok(()));
+    assert_eq!(administrator.restart(None), Ok(()));
+    assert_eq!(administrator, ending);
 }
 
 /// Delivers a request to the first servers and takes their answers.
@@ -235,6 +245,61 @@ fn equal_sizes_read_in_one_exchange() {
         let completed = exchange(&mut image, 1, read as u16);
         assert_eq!(completed, (read == write).then_some(2));
     }
+}
+
+/// Takes these answers.
+fn take(image: &mut Image, answers: impl Iterator<Item = u16>) {
+    for message in answers {
+        image.step(Step::Take { message }).unwrap();
+    }
+}
+
+#[test]
+fn a_restart() {
+    let restart = |bits, f, r| Step::Restart {
+        members: Numbers::from_bits(bits),
+        f,
+        r,
+    };
+    let mut image = Image::fresh(members(0b1111, 1, 0)).unwrap();
+    assert_eq!(image.step(restart(0, 0, 0)), Err(Refusal::NoRule));
+    let next = Step::NewView {
+        members: Numbers::from_bits(0b11_1100),
+        f: 1,
+        r: 0,
+    };
+    image.step(next).unwrap();
+    for server in 1..=3 {
+        let deliver = Step::Deliver { server, message: 1 };
+        image.step(deliver).unwrap();
+    }
+    take(&mut image, 2..=3);
+    for (step, refusal) in [
+        (restart(0, 1, 0), Refusal::Range),
+        (restart(0, 0, 1), Refusal::Range),
+        (restart(0b111, 1, 0), Refusal::Size),
+        (restart(0b1111, 0, 3), Refusal::Size),
+    ] {
+        assert_eq!(image.step(step), Err(refusal));
+        assert_eq!(Step::from_bytes(step.to_bytes()), step);
+    }
+    // Without a restart the third answer closes END.
+    let mut straight = image.clone();
+    take(&mut straight, 4..=4);
+    assert_eq!(straight.newest(), 2);
+    let mut other = image.clone();
+    image.step(restart(0, 0, 0)).unwrap();
+    assert!((2..=4).all(|number| !image.message(number).unwrap().taken()));
+    take(&mut image, 2..=4);
+    assert_eq!(image, straight);
+    assert_eq!(image.step(restart(0, 0, 0)), Err(Refusal::NoRule));
+    // With new members the same START, and another view.
+    other.step(restart(0b111_1100, 0, 2)).unwrap();
+    assert_eq!((other.newest(), other.ending()), (1, Some(1)));
+    take(&mut other, 2..=4);
+    assert_eq!((other.newest(), other.message(5)), (2, straight.message(5)));
+    let view = View::new(Numbers::from_bits(0b111_1100), 0, 2);
+    assert_eq!(other.view(2), Some(view));
 }
 
 #[test]

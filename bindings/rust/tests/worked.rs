@@ -348,8 +348,27 @@ fn the_administrator() {
     assert_eq!(administrator(&mut record, &view), Ok(()));
     assert_eq!(record, [1, 1, 5, 0]);
     assert_eq!(administrator(&mut record, &view), Err(Refusal::Busy));
+    // It restarts: the record stays, whatever is asked.
+    let restart = |number: u8, view: [u8; 8]| [&[9, 0, number, 0][..], &view].concat();
+    let none = [0; 8];
+    for (asked, answer) in [
+        (restart(0, none), Ok(())),
+        (restart(0, [15, 0, 0, 0, 1, 0, 0, 0]), Ok(())),
+        (restart(0, [15, 0, 0, 0, 0, 2, 0, 0]), Ok(())),
+        (restart(5, none), Err(Refusal::Range)),
+        (restart(0, [0, 0, 0, 0, 1, 0, 0, 0]), Err(Refusal::Range)),
+        (restart(0, [0, 0, 0, 0, 0, 1, 0, 0]), Err(Refusal::Range)),
+        (restart(0, [15, 0, 0, 0, 1, 0, 1, 0]), Err(Refusal::Range)),
+        (restart(0, [7, 0, 0, 0, 1, 0, 0, 0]), Err(Refusal::Size)),
+        (restart(0, [15, 0, 0, 0, 0, 3, 0, 0]), Err(Refusal::Size)),
+    ] {
+        assert_eq!(administrator(&mut record, &asked), answer, "{asked:?}");
+        assert_eq!(record, [1, 1, 5, 0]);
+    }
     assert_eq!(administrator(&mut record, &close), Ok(()));
     assert_eq!(record, [2, 0, 0, 0]);
+    let started = administrator(&mut record, &restart(0, none));
+    assert_eq!(started, Err(Refusal::NoRule));
     assert_eq!(administrator(&mut record, &view[1..]), Err(Refusal::Length));
     assert_eq!(administrator(&mut [1, 0, 5, 0], &view), Err(Refusal::Range));
 }

@@ -16,7 +16,7 @@ use Rattle.protocol.specs.Clients.{WRITES, READS}
 use Rattle.protocol.specs.Worlds.{World, message}
 use Rattle.protocol.specs.Consistent.{Operation, In, here, there, Before, now, later, Once, none as nobody, one, Stands, completed, surfaced, Ended, Between, Ordered}
 use Rattle.protocol.specs.Runs.{Tracked, unfinished, entryOf, operation, history}
-use Rattle.protocol.specs.Laws.Tests.{and-left, and-right, and-both, or-cases, clash}
+use Rattle.protocol.specs.Laws.Tests.{and-left, and-right, and-both, or-cases, clash, or-first, or-second}
 use Rattle.protocol.specs.Laws.Entries.{_≼_, ≼-count, same-is, is-same}
 use Rattle.protocol.specs.Laws.Worlds.{content, sent}
 use Rattle.agreement.specs.Lists.{in-map, map-in, Rising, next, Related, before, after, equal, related}
@@ -27,14 +27,6 @@ use Rattle.agreement.specs.Operations.{Wrote, Own, Fits, Chose, Earlier,
 use Rattle.agreement.specs.Precedence.{_≺_, count, writer, Level, ≺-not, Key, Precedes, by-stamp, by-kind, by-read, precedes-trans, precedes-self, compared, precedes-≼, precedes-≺}
 use Rattle.agreement.specs.Stamps.{unique, entry-done, entry-open, write-sent}
 use Rattle.agreement.specs.Legal.{Stand, Source, held, Asks, legal, equal-reads}
-
-or-first : (a b : Bool) → a ≡ true → (a || b) ≡ true
-or-first true b e = refl
-or-first false b e = clash e refl
-
-or-second : (a b : Bool) → b ≡ true → (a || b) ≡ true
-or-second true b e = refl
-or-second false b e = e
 
 -- an element of a list that passes a test
 record Passes (p : Tracked → Bool) (l : List Tracked) : Type 0 where

@@ -7,7 +7,7 @@ use Rattle.protocol.specs.Tools.{within, Result, done, guard}
 use Rattle.protocol.specs.Sizes.{clients, views, messages}
 use Rattle.protocol.specs.Entries.{entryFits}
 use Rattle.protocol.specs.Servers.{ANSWER, Reply, serve, mayAnswer}
-use Rattle.protocol.specs.Clients.{WRITES, READS, begin, giveUp, Close, once, close, isEnding, call, advance}
+use Rattle.protocol.specs.Clients.{WRITES, READS, begin, giveUp, Close, once, close, isEnding, call, bareFits, restart, advance}
 use Rattle.checked.specs.Ranges.{numberFits, serverInRange, messageInRange, clientInRange, administratorInRange}
 
 -- a message reaches a server
@@ -52,6 +52,10 @@ closeRule c who e one n =
 -- the administrator calls a new view
 unfoldable pub callRule : Administrator → View → ℕ → Result Administrator
 callRule a v n = guard (administratorInRange a && numberFits n) 3 (call a v n)
+
+-- the administrator restarted
+unfoldable pub restartRule : Administrator → View → Result Administrator
+restartRule a v = guard (administratorInRange a && bareFits v) 3 (restart a v)
 
 -- END closes
 unfoldable pub advanceRule : Administrator → Result Administrator

@@ -31,8 +31,8 @@ use values::records;
 ghost use mathlib.Core.Path.{_≡_};
 ghost use Rattle.protocol.specs.Tools.{numberOf};
 ghost use Rattle.protocol.specs.Servers.{served};
-ghost use Rattle.protocol.specs.Clients.{begun, givenUp, closing, called};
-ghost use Rattle.checked.specs.Rules.{serveRule, falseAnswerRule, writeRule, readRule, giveUpRule, takeRule, isReading, nextFits, closeRule, callRule, advanceRule};
+ghost use Rattle.protocol.specs.Clients.{begun, givenUp, closing, called, bareFits};
+ghost use Rattle.checked.specs.Rules.{serveRule, falseAnswerRule, writeRule, readRule, giveUpRule, takeRule, isReading, nextFits, closeRule, callRule, restartRule, advanceRule};
 
 // A message reaches a server: 3, 5, 6, 7.
 pub fn serve_rule(a: Server, m: Message, member: bool) -> Served
@@ -200,6 +200,35 @@ pub fn call_rule(a: Administrator, v: View, n: MessageNumber) -> Called
         return Called::CallRefused(UNFIT);
     }
     administrator::call(a, v, n)
+}
+
+// Without member bits a restart names neither f nor a read size.
+fn bare_fits(v: View) -> bool
+    ensures { λ r. ⌜ r ≡ bareFits v ⌝ }
+{
+    let members = v.members;
+    if members.0 != 0 {
+        return true;
+    }
+    if v.f != 0 {
+        return false;
+    }
+    v.r == 0
+}
+
+// The administrator restarted: 3, 7, nothing is being ended; 8.
+pub fn restart_rule(a: Administrator, v: View) -> Called
+    ensures { λ r. ⌜ called r ≡ restartRule a v ⌝ }
+{
+    let administrator_ok = ranges::administrator_in_range(a);
+    if !administrator_ok {
+        return Called::CallRefused(UNFIT);
+    }
+    let view_ok = bare_fits(v);
+    if !view_ok {
+        return Called::CallRefused(UNFIT);
+    }
+    administrator::restart(a, v)
 }
 
 // END closes, and the called view becomes the newest: 3, 7, not ending.

@@ -22,18 +22,18 @@ use Rattle.protocol.specs.Runs.{stepWidth, replay}
 pub use Rattle.protocol.specs.Laws.Refusals.{among, Refuses, refusals, lastRefusal, zero-done, quorum-refuses}
 use Rattle.protocol.specs.Laws.Refusals.{refuses-done, refuses-by, refuses-guard, refuses-if, refuses-more, among-ranged}
 use Rattle.protocol.specs.Laws.Refusals.{step-refuses, fresh-refuses, serve-refuses, may-answer-refuses, begin-refuses, close-refuses}
-use Rattle.protocol.specs.Laws.Refusals.{call-refuses, replay-refuses, replay-all}
+use Rattle.protocol.specs.Laws.Refusals.{call-refuses, restart-refuses, replay-refuses, replay-all}
 use Rattle.codec.specs.Layout.{imageSize}
 use Rattle.codec.specs.Images.{decode}
 use Rattle.image.specs.Readable.{readable}
 use Rattle.image.specs.Fresh.{outcome, freshOn}
 use Rattle.image.specs.Premise.{premiseOn}
 use Rattle.image.specs.Steps.{stepOn, stepsOf, played, unplayed, replayOn, resumeOn}
-use Rattle.checked.specs.Rules.{serveRule, falseAnswerRule, writeRule, readRule, giveUpRule, takeRule, closeRule, callRule, advanceRule}
+use Rattle.checked.specs.Rules.{serveRule, falseAnswerRule, writeRule, readRule, giveUpRule, takeRule, closeRule, callRule, restartRule, advanceRule}
 use Rattle.journal.specs.Rests.{steps-count}
-use Rattle.single.specs.Rules.{stays, serverRule, opens, clientRule, operationRule, droppingRule, administratorRule}
+use Rattle.single.specs.Rules.{stays, serverRule, opens, clientRule, operationRule, droppingRule, callingRule, restartingRule, administratorRule}
 use Rattle.single.specs.Calls.{serverCall, clientCall, administratorCall}
-use Rattle.protocol.specs.Steps.{giveUpStep}
+use Rattle.protocol.specs.Steps.{giveUpStep, restartStep}
 use Rattle.protocol.specs.Clients.{giveUp}
 
 -- ---- a step
@@ -142,6 +142,10 @@ pub call-numbers : (a : Administrator) (v : View) (n : ℕ) → Refuses (3 ∷ 4
 unfolding callRule
 call-numbers a v n = refuses-guard _ _ _ _ refl (refuses-more (4 ∷ 8 ∷ []) _ _ refl (call-refuses _ _ _))
 
+pub restart-numbers : (a : Administrator) (v : View) → Refuses (3 ∷ 7 ∷ 8 ∷ []) (restartRule a v)
+unfolding restartRule
+restart-numbers a v = refuses-guard _ _ _ _ refl (refuses-more (7 ∷ 8 ∷ []) _ _ refl (restart-refuses _ _))
+
 pub advance-numbers : (a : Administrator) → Refuses (3 ∷ 7 ∷ []) (advanceRule a)
 unfolding advanceRule
 advance-numbers a = refuses-guard _ _ _ _ refl (refuses-guard _ _ _ _ refl (refuses-done _ _))
@@ -194,14 +198,19 @@ client-call-numbers c b =
     refuses-guard _ _ _ _ refl
     (refuses-guard _ _ _ _ refl (refuses-guard _ _ _ _ refl (refuses-guard _ _ _ _ refl (client-rule-refuses _ _ _ _ _ _))))
 
-administrator-rule-refuses : (a : Administrator) (rule n : ℕ) (v : View) → Refuses (1 ∷ 3 ∷ 4 ∷ 7 ∷ 8 ∷ []) (administratorRule a rule n v)
-unfolding administratorRule
-administrator-rule-refuses a rule n v =
+calling-rule-refuses : (a : Administrator) (rule n : ℕ) (v : View) → Refuses (1 ∷ 3 ∷ 4 ∷ 7 ∷ 8 ∷ []) (callingRule a rule n v)
+unfolding callingRule
+calling-rule-refuses a rule n v =
     refuses-if _ (eqb rule 7) _ _ (refuses-more (3 ∷ 4 ∷ 8 ∷ []) _ _ refl (call-numbers _ _ _))
     (refuses-guard _ _ _ _ refl
     (refuses-guard _ _ _ _ refl
     (refuses-guard _ _ _ _ refl
     (refuses-guard _ _ _ _ refl (refuses-guard _ _ _ _ refl (refuses-more (3 ∷ 7 ∷ []) _ _ refl (advance-numbers _)))))))
+
+administrator-rule-refuses : (a : Administrator) (rule n : ℕ) (v : View) → Refuses (1 ∷ 3 ∷ 4 ∷ 7 ∷ 8 ∷ []) (administratorRule a rule n v)
+unfolding administratorRule restartingRule
+administrator-rule-refuses a rule n v =
+    refuses-if _ (eqb rule restartStep) _ _ (refuses-guard _ _ _ _ refl (refuses-more (3 ∷ 7 ∷ 8 ∷ []) _ _ refl (restart-numbers _ _))) (calling-rule-refuses a rule n v)
 
 pub administrator-call-numbers : (a b : List ℕ) → Refuses (1 ∷ 3 ∷ 4 ∷ 7 ∷ 8 ∷ []) (administratorCall a b)
 unfolding administratorCall

@@ -1,7 +1,7 @@
 // Check 3: "3, unknown kind, a field out of range or an unused field set".
 ghost use mathlib.Core.Bool.{_&&_};
 ghost use mathlib.Core.Path.{_≡_};
-ghost use Rattle.protocol.specs.Steps.{field, fieldsFit};
+ghost use Rattle.protocol.specs.Steps.{field, restartFits, fieldsFit};
 ghost use Rattle.fields.specs.Checks.{placesFit, numbersFit};
 use super::table::F;
 use super::table::MESSAGE;
@@ -19,7 +19,7 @@ use super::table::who_range;
 use super::table::who_used;
 use protocol::Range;
 use protocol::Step;
-use protocol::kinds::GIVE_UP_STEP;
+use protocol::kinds::RESTART_STEP;
 use protocol::kinds::WRITE_STEP;
 
 // A used field is in its range; "an unused field is zero".
@@ -67,6 +67,20 @@ fn numbers_fit(row: u8, st: Step) -> bool
     both(message_fits, both(source_fits, value_fits))
 }
 
+// "with value 0 both are 0, else 3": a restart that leaves the pending view names neither f nor a read size.
+fn restart_fits(st: Step) -> bool
+    ensures { λ r. ⌜ r ≡ restartFits st ⌝ }
+{
+    let kind = st.kind;
+    if kind != RESTART_STEP {
+        return true;
+    }
+    if st.value != 0 {
+        return true;
+    }
+    both(st.f == 0, st.who == 0)
+}
+
 pub fn fields_fit(st: Step) -> bool
     ensures { λ r. ⌜ r ≡ fieldsFit st ⌝ }
 {
@@ -74,9 +88,12 @@ pub fn fields_fit(st: Step) -> bool
     if kind < WRITE_STEP {
         return false;
     }
-    if GIVE_UP_STEP < kind {
+    if RESTART_STEP < kind {
         return false;
     }
     let row = row_of(kind);
-    both(places_fit(row, st), numbers_fit(row, st))
+    both(
+        places_fit(row, st),
+        both(numbers_fit(row, st), restart_fits(st)),
+    )
 }

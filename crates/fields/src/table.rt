@@ -3,7 +3,7 @@ ghost use mathlib.Core.Path.{_≡_};
 ghost use Prim.Native.Nat.{_<_};
 ghost use Rattle.protocol.specs.Steps.{rowOf, inRow, whoNamed, whoUsed, whoRange};
 use protocol::Range;
-use protocol::kinds::GIVE_UP_STEP;
+use protocol::kinds::RESTART_STEP;
 use protocol::limits::CLIENTS;
 use protocol::limits::MESSAGES;
 use protocol::limits::SERVERS;
@@ -26,8 +26,8 @@ pub const VALUE: u8 = 64;
 
 pub const SIZE: u8 = 128;
 
-// The fields of each kind: write, read, deliver, take, fault, false answer, new view, giving up.
-const FIELDS: [u8; 9] = [
+// The fields of each kind: write, read, deliver, take, fault, false answer, new view, giving up, a restart.
+const FIELDS: [u8; 10] = [
     0,
     CLIENT + VALUE,
     CLIENT,
@@ -37,6 +37,7 @@ const FIELDS: [u8; 9] = [
     SERVER + VIEW + MESSAGE + SOURCE,
     SIZE + F + VALUE,
     CLIENT,
+    SIZE + F + VALUE,
 ];
 
 // "Clients are 1 to 16, servers 1 to 32, views 1 to 32, messages 1 to 1,023." "Any f and value are in range; source is 0 to 1,023."
@@ -79,7 +80,7 @@ pub const VALUE_RANGE: Range = Range {
 pub fn row_of(kind: u8) -> u8
     ensures { λ r. ⌜ r ≡ rowOf kind ⌝ }
 {
-    if GIVE_UP_STEP < kind {
+    if RESTART_STEP < kind {
         return 0;
     }
     FIELDS[kind as usize]

@@ -15,7 +15,7 @@ use Rattle.protocol.specs.Tools.{if}
 use Rattle.protocol.specs.Entries.{empty, countOf, writerOf, same}
 use Rattle.protocol.specs.Clients.{WRITES, READS}
 use Rattle.protocol.specs.Consistent.{Operation, In, here, there, Before, now, later, Once, none as nobody, one, Stands, completed, surfaced, Ended, Reads, end, write, read, Between}
-use Rattle.protocol.specs.Laws.Tests.{and-left, and-right, and-both, or-cases, clash, last-or}
+use Rattle.protocol.specs.Laws.Tests.{and-left, and-right, and-both, or-cases, clash, last-or, or-first, or-second}
 use Rattle.protocol.specs.Laws.Entries.{_≼_, by-count, by-writer}
 use Rattle.judging.specs.declared.Logged.{Logged}
 use Rattle.judging.specs.Orders.{loggedOperation, operations, NeverFalling, OrderOf}
@@ -37,14 +37,6 @@ pub is-same : (a b : Entry) → a ≡ b → same a b ≡ true
 unfolding same
 is-same a b e =
     and-both _ _ (eq-eqb _ _ (ap countOf e)) (and-both _ _ (eq-eqb _ _ (ap writerOf e)) (eq-eqb _ _ (ap (λ (x : Entry). x .value) e)))
-
-or-first : (a b : Bool) → a ≡ true → (a || b) ≡ true
-or-first true b e = refl
-or-first false b e = clash e refl
-
-or-second : (a b : Bool) → b ≡ true → (a || b) ≡ true
-or-second true b e = refl
-or-second false b e = e
 
 pub some-is : {a b : Entry} → some a ≡ some b → a ≡ b
 some-is q = cc

@@ -9,12 +9,12 @@ use mathlib.Core.Path.{_≡_, refl, sym, ap, _∙_}
 use mathlib.Core.List.{List, _++_}
 use lib.ListN.{length, take, drop, length-drop}
 use lib.Seq.{drop-at, drop-append-le, take-append-le, take-all}
-use borrow.Author.Tests.{le-leb}
+use borrow.Author.Tests.{le-leb, ne-eqb}
 use Rattle.protocol.specs.declared.Step.{Step}
 use Rattle.protocol.specs.declared.Range.{Range}
 use Rattle.protocol.specs.Laws.Tests.{within-true, last-or}
 use Rattle.protocol.specs.Laws.Kinds.{Fitting, fits}
-use Rattle.protocol.specs.Steps.{writeStep, giveUpStep, CLIENT, SERVER, SIZE, VIEW, F, MESSAGE, SOURCE, VALUE, rowOf, inRow, field, fieldsFit, lastWord}
+use Rattle.protocol.specs.Steps.{writeStep, restartStep, CLIENT, SERVER, SIZE, VIEW, F, MESSAGE, SOURCE, VALUE, rowOf, inRow, field, restartFits, fieldsFit, lastWord}
 use Rattle.protocol.specs.Steps.{range, viewRange, thresholdRange, messageRange, sourceRange, valueRange, clientRange, serverRange, readRange, whoNamed, whoUsed, whoRange}
 use Rattle.protocol.specs.Tools.{if}
 use Rattle.protocol.specs.Sizes.{messages}
@@ -41,6 +41,12 @@ who-fits row state = go (inRow row CLIENT) (inRow row SERVER) (inRow row SIZE)
     go false false true = refl
     go false false false = refl
 
+-- a load has no restart
+no-restart : (st : Step) → field true loadKinds (st .kind) ≡ true → restartFits st ≡ true
+no-restart st e =
+    let (l, h) = within-true (loadKinds .low) (loadKinds .high) (st .kind) e in
+    rw (ne-eqb (st .kind) restartStep (λ q. omega arith)) refl
+
 pub step-passes : (state : ℕ) → fieldsFit (drawnStep state .step) ≡ true
 unfolding drawnStep drawnPlaces drawnNumbers
 step-passes state =
@@ -53,13 +59,14 @@ step-passes state =
     let source : Drawn = drawn (inRow row SOURCE) sourceRange (message .state) in
     fits (drawnStep state .step)
     (record {
-      kind = wider true loadKinds (range writeStep giveUpStep) (kind .value) (omega arith) (omega arith) (drawn-fits true loadKinds state (omega arith));
+      kind = wider true loadKinds (range writeStep restartStep) (kind .value) (omega arith) (omega arith) (drawn-fits true loadKinds state (omega arith));
       who = who-fits row (kind .state);
       view = drawn-fits (inRow row VIEW) viewRange (who .state) (omega arith);
       f = wider (inRow row F) loadThresholds thresholdRange (f .value) (omega arith) (omega arith) (drawn-fits (inRow row F) loadThresholds (view .state) (omega arith));
       message = drawn-fits (inRow row MESSAGE) messageRange (f .state) (omega arith);
       source = drawn-fits (inRow row SOURCE) sourceRange (message .state) (omega arith);
       value = drawn-fits (inRow row VALUE) valueRange (source .state) (omega arith);
+      restart = no-restart (drawnStep state .step) (drawn-fits true loadKinds state (omega arith));
     })
 
 -- ---- the steps that a journal spells

@@ -6,9 +6,11 @@ use protocol::MessageNumber;
 use protocol::View;
 use protocol::ViewNumber;
 use protocol::limits::VIEWS;
+use protocol::refusals::NOT_APPLICABLE;
+use protocol::refusals::WRONG_SIZE;
 use values::sizes;
 ghost use mathlib.Core.Path.{_≡_};
-ghost use Rattle.protocol.specs.Clients.{isEnding, endOf, call, called};
+ghost use Rattle.protocol.specs.Clients.{isEnding, endOf, call, restart, called};
 ghost use Rattle.machines.specs.Clients.{advanceIn};
 
 // Whether the newest view is being ended.
@@ -52,6 +54,27 @@ pub fn call(a: Administrator, v: View, n: MessageNumber) -> Called
         newest: newest,
         ending: Ending::EndSent(n),
     })
+}
+
+// It restarted, and its record stays as it is; v is the new pending view, or has no members. 7, nothing is being ended; 8, size
+// rule broken.
+pub fn restart(a: Administrator, v: View) -> Called
+    ensures { λ r. ⌜ called r ≡ restart a v ⌝ }
+{
+    let ending = a.ending;
+    let members = v.members;
+    let busy = is_ending(ending);
+    if !busy {
+        return Called::CallRefused(NOT_APPLICABLE);
+    }
+    if members.0 == 0 {
+        return Called::Calling(a);
+    }
+    let obeys = sizes::sized(v);
+    if !obeys {
+        return Called::CallRefused(WRONG_SIZE);
+    }
+    Called::Calling(a)
 }
 
 // END closes: the next view becomes the newest. 3, there is no view after it.

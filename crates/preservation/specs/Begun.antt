@@ -51,7 +51,7 @@ module _ (v : View) (z : sized v ≡ true) where
   unfolding clientFits clientRange entryFits same
   fresh-clients c l u = rw (fresh-client v c) refl
 
-  fresh-formed : Formed (freshWorld v)
+  pub fresh-formed : Formed (freshWorld v)
   fresh-formed =
       record {
         viewCount = views-count v;

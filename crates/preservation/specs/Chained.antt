@@ -87,7 +87,7 @@ bit-or true true = omega arith
 bit-or true false = omega arith
 bit-or false y = le-refl _
 
-count-more : (p q : ℕ → Bool) (n : ℕ) → countTo q n ≤ countTo (λ i. p i || q i) n
+pub count-more : (p q : ℕ → Bool) (n : ℕ) → countTo q n ≤ countTo (λ i. p i || q i) n
 unfolding countTo
 count-more p q zero = omega arith
 count-more p q (suc n) = omega (arith, count-more p q n, bit-or (p (suc n)) (q (suc n)))

@@ -1,27 +1,28 @@
 -- Who completes an operation. Assumes nothing.
-use Prim.Native.Nat.{ℕ, _≤_}
+use Prim.Native.Nat.{ℕ, _+_, _≤_}
 use native.Mathlib.Omega.{arith}
 use mathlib.Core.Bool.{Bool, true, false, _&&_}
 use mathlib.Core.Option.{Option, none, some}
-use mathlib.Core.Path.{_≡_, refl, subst}
+use mathlib.Core.Path.{_≡_}
 use lib.Dec.{eqb}
 use borrow.Author.Tests.{eqb-true, eqb-false, le-leb}
 use Rattle.protocol.specs.declared.Shown.{Shown}
 use Rattle.protocol.specs.declared.Server.{Server}
 use Rattle.protocol.specs.declared.Step.{Step}
-use Rattle.protocol.specs.Tools.{if, within, Result, refused, done, guard, then}
+use Rattle.protocol.specs.Tools.{if, within, Result, done, guard}
 use Rattle.protocol.specs.Sizes.{clients, writeSize}
 use Rattle.protocol.specs.declared.Entry.{Entry}
 use Rattle.protocol.specs.declared.View.{View}
 use Rattle.protocol.specs.Entries.{chosen}
 use Rattle.protocol.specs.Chains.{enough, shown}
 use Rattle.protocol.specs.Servers.{READ, WRITE, END, isRequest, serve, mayAnswer}
-use Rattle.protocol.specs.Clients.{WRITES, READS, begin, giveUp, closeSize, close, call}
-use Rattle.protocol.specs.Worlds.{World, view, newest, server, client, message, member, present, room, withClient, nextNumber}
-use Rattle.protocol.specs.Steps.{After, moved, source?, link, takenWith, begins, answers, deliver, closes, starts, takes, take, fault, lie, newView, givesUp, perform, step, viewStep, viewAsked}
+use Rattle.protocol.specs.Clients.{WRITES, READS, begin, giveUp, closeSize, close, endOf, call, restart}
+use Rattle.protocol.specs.Worlds.{World, view, newest, server, client, message, member, present, room, withClient, withAdministrator, nextNumber}
+use Rattle.protocol.specs.Steps.{After, moved, source?, link, takenWith, begins, answers, deliver, closes, starts, takes, take, fault, lie, newView, emptied, planned, restarts, givesUp, perform, step, viewStep, giveUpStep, viewAsked}
 use Rattle.protocol.specs.Readable.{wellFormed}
 use Rattle.protocol.specs.Laws.Tests.{and-left, and-right, within-true}
 use Rattle.protocol.specs.Laws.Formed.{Formed, formed}
+use Rattle.preservation.specs.Outcomes.{Yields, yields-done, yields-guard, yields-then, yields-if, yields-moved, yields-room}
 use Rattle.preservation.specs.Updates.{present-is, request-of}
 use Rattle.preservation.specs.Kept.{mailed}
 
@@ -31,45 +32,23 @@ pub data Told : ℕ → Type 0 where
   who : {c : ℕ} → 1 ≤ c → c ≤ clients → Told c
 
 -- whom a result that is no refusal tells
-record Tells (x : Result After) : Type 0 where
-  told : (a : After) → x ≡ done a → Told (a .completed)
-
--- ---- by the form of a step
-
-tells-no : (n : ℕ) → Tells (refused n)
-tells-no n = record { told = λ a e. absurd (let z : _≡_ {A = ℕ} 0 1 = cc in omega arith) }
-
-tells-done : (w : World) (c : ℕ) → Told c → Tells (done (record { world = w; completed = c }))
-tells-done w c t = record { told = λ a e. let f : c ≡ a .completed = cc in subst Told f t }
-
-tells-guard : (b : Bool) (n : ℕ) (x : Result After) → (b ≡ true → Tells x) → Tells (guard b n x)
-unfolding guard
-tells-guard true n x f = f refl
-tells-guard false n x f = tells-no n
-
-tells-then : {A : Type 0} (x : Result A) (f : A → Result After) → ((a : A) → Tells (f a)) → Tells (then x f)
-tells-then (refused n) f g = tells-no n
-tells-then (done a) f g = g a
-
-tells-if : (b : Bool) (x y : Result After) → (b ≡ true → Tells x) → (b ≡ false → Tells y) → Tells (if b x y)
-tells-if true x y f g = f refl
-tells-if false x y f g = g refl
-
-tells-either : (b : Bool) {x y : Result After} → Tells x → Tells y → Tells (if b x y)
-tells-either true s t = s
-tells-either false s t = t
+abbrev Tells : Result After → Type 0
+Tells x = Yields (λ (a : After). Told (a .completed)) x
 
 tells-moved : (w : World) → Tells (moved w)
-tells-moved w = tells-done w 0 nobody
+tells-moved w = yields-moved w nobody
 
 tells-room : (b : Bool) (w : World) → Tells (guard b 10 (moved w))
-tells-room b w = tells-guard b 10 (moved w) (λ e. tells-moved w)
+tells-room b w = yields-room b w nobody
+
+tells-either : (b : Bool) {x y : Result After} → Tells x → Tells y → Tells (if b x y)
+tells-either b s t = yields-if b _ _ (λ e. s) (λ e. t)
 
 -- ---- by kind
 
 begins-tells : (w : World) (c kind value : ℕ) → Tells (begins w c kind value)
 unfolding begins
-begins-tells w c kind value = tells-then (begin (client w c) kind value (nextNumber w)) _ (λ a. tells-room (room w) _)
+begins-tells w c kind value = yields-then (begin (client w c) kind value (nextNumber w)) _ (λ a _. tells-room (room w) _)
 
 answers-tells : (x : Option Shown) (w : World) (s n : ℕ) (a : Server) → Tells (answers x w s n a)
 answers-tells none w s n a = tells-moved _
@@ -77,11 +56,11 @@ answers-tells (some x) w s n a = tells-room _ _
 
 deliver-tells : (w : World) (s n : ℕ) → Tells (deliver w s n)
 unfolding deliver
-deliver-tells w s n = tells-guard _ _ _ (λ e. tells-then (serve (server w s) (message w n) (member w (message w n .view .0) s)) _ (λ r. answers-tells (r .answer) w s n (r .server)))
+deliver-tells w s n = yields-guard _ _ _ (λ e. yields-then (serve (server w s) (message w n) (member w (message w n .view .0) s)) _ (λ r _. answers-tells (r .answer) w s n (r .server)))
 
 closes-tells : (w : World) (k c : ℕ) (e : Entry) (one : Bool) → Told c → Tells (closes w k c e one)
 unfolding closes
-closes-tells w k c e one t = tells-then (close (client w c) c e one (nextNumber w)) _ (λ x. tells-if (x .complete) _ _ (λ q. tells-done _ _ t) (λ q. tells-room _ _))
+closes-tells w k c e one t = yields-then (close (client w c) c e one (nextNumber w)) _ (λ x _. yields-if (x .complete) _ _ (λ q. yields-done _ t) (λ q. tells-room _ _))
 
 starts-tells : (w : World) (k : ℕ) (e : Entry) → Tells (starts w k e)
 unfolding starts
@@ -91,7 +70,7 @@ takes-tells : (w : World) (k r t : ℕ) → (eqb (message w r .kind) END ≡ fal
 unfolding takes
 takes-tells w k r t f =
     let e : Entry = chosen (shown w t (takenWith w k)) in
-    tells-if (eqb (message w r .kind) END) _ _
+    yields-if (eqb (message w r .kind) END) _ _
     (λ i. tells-either (eqb t (newest w) && enough w t (takenWith w k) (writeSize (view w t))) (starts-tells w k e) (tells-moved (link w k)))
     (λ i. tells-either (enough w t (takenWith w k) (closeSize (client w (message w r .sender) .phase) (view w t))) (closes-tells w k (message w r .sender) e _ (f i)) (tells-moved (link w k)))
 
@@ -108,7 +87,7 @@ asker {w} h r p k i =
 take-tells : {w : World} → Formed w → (k : ℕ) → Tells (take w k)
 unfolding take
 take-tells {w} h k =
-    tells-guard _ _ _ (λ p. tells-guard _ _ _ (λ o.
+    yields-guard _ _ _ (λ p. yields-guard _ _ _ (λ o.
     let (l, u) = present-is w k (and-left _ _ p) in
     let q = request-of h k l u (eqb-true _ _ (and-right (present w k) _ p)) in
     takes-tells w k (message w k .request .0) (message w k .view .0)
@@ -116,19 +95,23 @@ take-tells {w} h k =
 
 fault-tells : (w : World) (s : ℕ) → Tells (fault w s)
 unfolding fault
-fault-tells w s = tells-guard _ _ _ (λ e. tells-moved _)
+fault-tells w s = yields-guard _ _ _ (λ e. tells-moved _)
 
 lie-tells : (w : World) (s t n c : ℕ) → Tells (lie w s t n c)
 unfolding lie
-lie-tells w s t n c = tells-guard _ _ _ (λ e. tells-then (mayAnswer (server w s) t (message w n) (source? w c)) _ (λ a. tells-room (room w) _))
+lie-tells w s t n c = yields-guard _ _ _ (λ e. yields-then (mayAnswer (server w s) t (message w n) (source? w c)) _ (λ a _. tells-room (room w) _))
 
 newView-tells : (w : World) (v : View) → Tells (newView w v)
 unfolding newView
-newView-tells w v = tells-then (call (w .administrator) v (nextNumber w)) _ (λ a. tells-room (room w) _)
+newView-tells w v = yields-then (call (w .administrator) v (nextNumber w)) _ (λ a _. tells-room (room w) _)
 
 givesUp-tells : (w : World) (c : ℕ) → Tells (givesUp w c)
 unfolding givesUp
-givesUp-tells w c = tells-then (giveUp (client w c)) _ (λ a. tells-moved (withClient w c a))
+givesUp-tells w c = yields-then (giveUp (client w c)) _ (λ a _. tells-moved (withClient w c a))
+
+restarts-tells : (w : World) (v : View) → Tells (restarts w v)
+unfolding restarts
+restarts-tells w v = yields-then (restart (w .administrator) v) _ (λ a _. tells-moved (planned (withAdministrator (emptied w (endOf (a .ending))) a) (newest w + 1) v))
 
 perform-tells : {w : World} → Formed w → (st : Step) → Tells (perform w st)
 unfolding perform
@@ -140,9 +123,10 @@ perform-tells {w} h st =
     (tells-either (eqb (st .kind) 5) (fault-tells w (st .who))
     (tells-either (eqb (st .kind) 6) (lie-tells w (st .who) (st .view .0) (st .message .0) (st .source .0))
     (tells-either (eqb (st .kind) viewStep) (newView-tells w (viewAsked st))
-    (givesUp-tells w (st .who))))))))
+    (tells-either (eqb (st .kind) giveUpStep) (givesUp-tells w (st .who))
+    (restarts-tells w (viewAsked st)))))))))
 
 -- An accepted step on a readable world completes an operation of one of the sixteen clients, or none.
 pub completes : (w : World) → wellFormed w ≡ true → (st : Step) (a : After) → step w st ≡ done a → Told (a .completed)
 unfolding step
-completes w f st a e = tells-guard _ _ _ (λ i. perform-tells (formed w f) st) .told a e
+completes w f st a e = yields-guard _ _ _ (λ i. perform-tells (formed w f) st) .told a e

@@ -28,20 +28,22 @@ use Rattle.protocol.specs.Tools.{if, within, all, holds, bitOf, Result, refused
 use Rattle.protocol.specs.Sizes.{clients, servers, views, messages, lastCount, sized, writeSize}
 use Rattle.protocol.specs.Entries.{entry, empty, countOf, writerOf, larger, chosen, same, entryFits}
 use Rattle.protocol.specs.Servers.{READ, WRITE, END, START, ANSWER, isRequest, Reply, comparing, replacing, withoutKey, joining, gathering, mayAnswer}
-use Rattle.protocol.specs.Clients.{NONE, WRITES, READS, number, begin, closeSize, nextCount, toWrite, givenBy, countLeft, giveUp, Close, writeNext, completeWith, once, closeBy, close, isEnding, endOf, requestOf, call, advance}
-use Rattle.protocol.specs.Worlds.{World, view, server, client, message, newest, member, present, room, withServer, withClient, withView, withMessage, withAdministrator, send, nextNumber}
+use Rattle.protocol.specs.Clients.{NONE, WRITES, READS, number, begin, closeSize, nextCount, toWrite, givenBy, countLeft, giveUp, Close, writeNext, completeWith, once, closeBy, close, isEnding, endOf, requestOf, call, advance, keepsView, restart}
+use Rattle.protocol.specs.Worlds.{World, view, server, client, message, newest, member, present, room, withServer, withClient, withView, withMessage, withAdministrator, send, nextNumber, asSent}
 use Rattle.protocol.specs.Chains.{chain, tagged, enough, shown}
-use Rattle.protocol.specs.Steps.{After, moved, request, answer, answers, begins, deliver, link, open?, takenWith, atOnce, closes, starts, takes, take, fault, source?, lie, newView, givesUp, writeStep, readStep, deliverStep, faultStep, falseStep, giveUpStep, rowOf, viewAsked, step}
-use Rattle.protocol.specs.Readable.{isSent, serverFits, phaseFits, clientRange, clientFits, senderFits, tagRule, requestFits, nextFits, entryZero, sentFits, takenAnswer, wellFormed}
-use Rattle.protocol.specs.Laws.Tests.{and-left, and-right, and-both, clash, within-true, went, is-within}
+use Rattle.protocol.specs.Steps.{After, moved, request, answer, answers, begins, deliver, link, open?, takenWith, atOnce, closes, starts, takes, take, fault, source?, lie, newView, emptied, restarts, givesUp, writeStep, readStep, deliverStep, faultStep, falseStep, giveUpStep, rowOf, viewAsked, step}
+use Rattle.protocol.specs.Readable.{isSent, endingFits, serverFits, phaseFits, clientRange, clientFits, senderFits, tagRule, requestFits, nextFits, entryZero, sentFits, takenAnswer, wellFormed}
+use Rattle.protocol.specs.Laws.Tests.{and-left, and-right, and-both, clash, within-true, went, is-within, or-first, or-second}
 use Rattle.protocol.specs.Laws.Entries.{larger-one, Listed, head, tail, chosen-one}
-use Rattle.protocol.specs.Laws.Worlds.{message-new}
+use Rattle.protocol.specs.Laws.Worlds.{content, sent, message-new}
 use Rattle.protocol.specs.Laws.Moves.{done-is, is-done, room-left, Serving, reads, writes, ends, joins, gathers, serving}
 use Rattle.protocol.specs.Laws.Kinds.{IsClient, IsServer, client-of as who-client, server-of as who-server, value-of, by-kind}
 use Rattle.protocol.specs.Laws.Formed.{Formed, formed, well-formed}
+use Rattle.preservation.specs.Formed.{sent-on}
 use Rattle.preservation.specs.Chained.{chained, all-map}
 use Rattle.preservation.specs.Links.{Untaken, taken-is}
-use Rattle.preservation.specs.Updates.{serverOk, mail-sent, request-of, present-is, clientOk, formed-server, formed-client, formed-send, formed-link, formed-raise, formed-call}
+use Rattle.preservation.specs.Emptied.{Rooted, emptied-sent}
+use Rattle.preservation.specs.Updates.{serverOk, mail-sent, request-of, present-is, short, clientOk, formed-server, formed-client, formed-send, formed-link, emptied-onward, formed-emptied, formed-raise, formed-call}
 
 -- ---- entries and keys
 
@@ -94,14 +96,6 @@ serves n a e =
 
 is-served : (n : ℕ) (a : Server) → Serves n a → serverOk n a ≡ true
 is-served n a h = and-both _ _ (le-leb _ _ (h .view)) (and-both _ _ (lt-ltb _ _ (h .keys)) (and-both _ _ (h .own) (h .entry)))
-
-or-second : (a b : Bool) → b ≡ true → (a || b) ≡ true
-or-second true b e = refl
-or-second false b e = e
-
-or-first : (a b : Bool) → a ≡ true → (a || b) ≡ true
-or-first true b e = refl
-or-first false b e = clash e refl
 
 -- the server of w with the number s
 server-of : {w : World} → Formed w → (s : ℕ) → IsServer s → Serves (newest w) (server w s)
@@ -548,29 +542,32 @@ module _ {w : World} (h : Formed w) {k r : ℕ} (u : Untaken w k r) where
       go true b o e = finishing (eqb-true _ _ o) (eqb t (newest w) && enough w t (takenWith w k) (writeSize (view w t))) e
       go false b o e = closing (who b) (enough w t (takenWith w k) (closeSize (client w (message w r .sender) .phase) (view w t))) e
 
-take-kept : {w : World} → Formed w → (k : ℕ) (a : After) → take w k ≡ done a → Formed (a .world)
-unfolding take
-take-kept {w} h k a e =
-    let (p, e1) = passed _ _ _ _ e in
-    let (o, e2) = passed _ _ _ _ e1 in
+-- what the tests of a take say of the answer k
+pub untaken : {w : World} → Formed w → (k : ℕ) → (present w k && eqb (message w k .kind) ANSWER) ≡ true → message w k .taken ≡ false → Untaken w k (message w k .request .0)
+untaken {w} h k p f =
     let (l, u) = present-is w k (and-left _ _ p) in
     let i = eqb-true _ _ (and-right (present w k) _ p) in
     let q = request-of h k l u i in
     let (c, d) = present-is w (message w k .request .0) (and-left _ _ q) in
-    takes-kept h
-    (record {
+    record {
       low = l;
       below = u;
       is = i;
-      free = not-true _ (and-left (not (message w k .taken)) _ o);
+      free = f;
       request = refl;
       from = c;
       to = d;
       asked = and-right (present w (message w k .request .0)) _ q;
       full = h .full;
       count = h .messageCount;
-    })
-    (and-right (not (message w k .taken)) _ o) (message w k .view .0) a e2
+    }
+
+take-kept : {w : World} → Formed w → (k : ℕ) (a : After) → take w k ≡ done a → Formed (a .world)
+unfolding take
+take-kept {w} h k a e =
+    let (p, e1) = passed _ _ _ _ e in
+    let (o, e2) = passed _ _ _ _ e1 in
+    takes-kept h (untaken h k p (not-true _ (and-left (not (message w k .taken)) _ o))) (and-right (not (message w k .taken)) _ o) (message w k .view .0) a e2
 
 -- ---- a new view
 
@@ -583,14 +580,10 @@ send-call : (w : World) (a : Administrator) (t : ℕ) (v : View) (m : Message) �
 unfolding withView withAdministrator send
 send-call w a t v m h = h
 
-not-ending : (x : Ending) → not (isEnding x) ≡ true → x ≡ Settled
-not-ending Settled e = refl
-not-ending (EndSent r) e = clash e refl
-
 call-kept : (w : World) (m : Message) → Formed (send w m) → (v : View) (a : Administrator) → sized v ≡ true → newest w < views → a .newest ≡ w .administrator .newest → (r : ℕ) → a .ending ≡ EndSent (number r)
-    → w .administrator .ending ≡ Settled → isSent (send w m) r END 0 ≡ true → message (send w m) r .view .0 ≡ newest w → Formed (withView (withAdministrator (send w m) a) (newest w + 1) v)
+    → isSent (send w m) r END 0 ≡ true → message (send w m) r .view .0 ≡ newest w → Formed (withView (withAdministrator (send w m) a) (newest w + 1) v)
 unfolding send
-call-kept w m f v a z n p r q s i t = formed-call f v a z n p r q s i t
+call-kept w m f v a z n p r q i t = formed-call f v a z n p r q i t
 
 newView-kept : {w : World} → Formed w → (v : View) (a : After) → newView w v ≡ done a → Formed (a .world)
 unfolding newView call
@@ -600,18 +593,19 @@ newView-kept {w} h v a e =
     let (z, f2) = passed _ _ _ _ f1 in
     let (l, e1) = passed _ _ _ _ (g .on) in
     subst (λ (x : After). Formed (x .world)) (done-is e1)
-    (go (g .value) (is-done f2) (and-left _ _ z) (ltb-true _ _ (and-right (sized v) _ z)) (not-ending _ p) (room-left w l))
+    (go (g .value) (is-done f2) (and-left _ _ z) (ltb-true _ _ (and-right (sized v) _ z)) (room-left w l))
   where
     m : Message
     m = request END 0 (newest w) empty
 
-    go : (b : Administrator) → b ≡ record { newest = w .administrator .newest; ending = EndSent (number (w .used + 1)) } → sized v ≡ true → newest w < views → w .administrator .ending ≡ Settled → w .used < messages
+    go : (b : Administrator) → b ≡ record { newest = w .administrator .newest; ending = EndSent (number (w .used + 1)) } → sized v ≡ true → newest w < views → w .used < messages
         → Formed (send (withView (withAdministrator w b) (newest w + 1) v) m)
-    go b q z n s l =
+    go b q z n l =
         let f = formed-send h m l (end-fits h) refl refl in
         let new : message (send w m) (w .used + 1) ≡ m = message-new w m (omega (arith, h .messageCount)) in
         send-call w b (newest w + 1) v m
-        (call-kept w m f v b z n (ap (λ (x : Administrator). x .newest) q) (w .used + 1) (ap (λ (x : Administrator). x .ending) q) s (new-sent h m l END 0 refl refl) (ap (λ (x : Message). x .view .0) new))
+        (call-kept w m f v b z n (ap (λ (x : Administrator). x .newest) q) (w .used + 1) (ap (λ (x : Administrator). x .ending) q)
+        (new-sent h m l END 0 refl refl) (ap (λ (x : Message). x .view .0) new))
 
 -- ---- giving up
 
@@ -625,9 +619,73 @@ givesUp-kept {w} h {c} i a e =
     go : (b : Client) → b ≡ record { phase = Idle; kind = NONE; entry = empty; given = client w c .given } → Formed (withClient w c b)
     go b q = rw q (formed-client h c (i .low) (i .high) _ (and-both _ _ (and-both _ _ empty-fits (client-of h c i .given)) refl))
 
+-- ---- a restart
+
+-- "the END is that of newest": what is known of an open END
+pub record Ended (w : World) (r : ℕ) : Type 0 where
+  pub room : newest w < views
+  pub sent : isSent w r END 0 ≡ true
+  pub is : message w r .kind ≡ END
+  pub tag : message w r .view .0 ≡ newest w
+  pub full : Rooted w r
+
+pub ended : {w : World} → Formed w → (r : MessageNumber) → w .administrator .ending ≡ EndSent r → Ended w (r .0)
+unfolding isSent
+ended {w} h r e =
+    let f = subst (λ (x : Ending). endingFits w x ≡ true) e (h .ending) in
+    let f1 = and-right (ltb (newest w) views) _ f in
+    let s = and-left _ _ f1 in
+    let (l, u) = present-is w (r .0) (and-left _ _ s) in
+    let i : message w (r .0) .kind ≡ END = eqb-true _ _ (and-left _ _ (and-right (present w (r .0)) _ s)) in
+    let k : isRequest (message w (r .0) .kind) ≡ true = ap (λ (x : ℕ). isRequest x) i in
+    record {
+      is = i;
+      room = ltb-true _ _ (and-left _ _ f);
+      sent = s;
+      tag = eqb-true _ _ (and-right (isSent w (r .0) END 0) _ f1);
+      full = record { short = short h (r .0) l u k; chain = chained w (r .0) (h .chained (r .0) l u) k };
+    }
+
+pub end-sent : (x : Ending) → isEnding x ≡ true → (r : MessageNumber) × (x ≡ EndSent r)
+end-sent Settled e = clash e refl
+end-sent (EndSent r) e = (r, refl)
+
+-- the END of w with the number r, emptied
+module _ {w : World} (h : Formed w) {r : ℕ} (d : Ended w r) where
+  stopped-kept : Formed (withAdministrator (emptied w r) (w .administrator))
+  unfolding emptied asSent withAdministrator
+  stopped-kept = formed-emptied h (d .full)
+
+  emptied-end : isSent (emptied w r) r END 0 ≡ true
+  emptied-end = sent-on (emptied-onward h (d .full)) r END 0 (d .sent)
+
+  emptied-tag : message (emptied w r) r .view .0 ≡ newest w
+  unfolding sent content
+  emptied-tag = ap (λ (m : Message). m .view .0) (emptied-sent (d .full) r) ∙ d .tag
+
+  replaced-kept : (v : View) → sized v ≡ true → w .administrator .ending ≡ EndSent (number r) → Formed (withView (withAdministrator (emptied w r) (w .administrator)) (newest w + 1) v)
+  unfolding emptied asSent
+  replaced-kept v z e = formed-call (formed-emptied h (d .full)) v (w .administrator) z (d .room) refl r e emptied-end emptied-tag
+
+restarts-kept : {w : World} → Formed w → (v : View) (a : After) → restarts w v ≡ done a → Formed (a .world)
+unfolding restarts restart
+restarts-kept {w} h v a e =
+    let g = went _ _ _ e in
+    let (p, f1) = passed _ _ _ _ (g .is) in
+    let (z, f2) = passed _ _ _ _ f1 in
+    let (r, q) = end-sent _ p in
+    subst (λ (x : After). Formed (x .world)) (done-is (g .on)) (rw (is-done f2) (go r q (keepsView v) z))
+  where
+    go : (r : MessageNumber) → w .administrator .ending ≡ EndSent r → (b : Bool) → (b || sized v) ≡ true
+        → Formed (if b (withAdministrator (emptied w (endOf (w .administrator .ending))) (w .administrator))
+        (withView (withAdministrator (emptied w (endOf (w .administrator .ending))) (w .administrator)) (newest w + 1) v))
+    go r q true z = subst (λ (x : Ending). Formed (withAdministrator (emptied w (endOf x)) (w .administrator))) (sym q) (stopped-kept h (ended h r q))
+    go r q false z =
+        subst (λ (x : Ending). Formed (withView (withAdministrator (emptied w (endOf x)) (w .administrator)) (newest w + 1) v)) (sym q) (replaced-kept h (ended h r q) v z q)
+
 -- ---- every step
 
-formed-step : {w : World} → Formed w → (st : Step) (a : After) → step w st ≡ done a → Formed (a .world)
+pub formed-step : {w : World} → Formed w → (st : Step) (a : After) → step w st ≡ done a → Formed (a .world)
 unfolding step rowOf
 formed-step {w} h st a e =
     let (f, e1) = passed _ _ _ _ e in
@@ -640,6 +698,7 @@ formed-step {w} h st a e =
     (λ q. lie-kept h (who-server st falseStep f q refl refl) (st .view .0) (st .message .0) (st .source .0) a)
     (λ q. newView-kept h (viewAsked st) a)
     (λ q. givesUp-kept h (who-client st giveUpStep f q refl) a)
+    (λ q. restarts-kept h (viewAsked st) a)
     e1
 
 -- Every accepted step keeps a world readable.

@@ -71,10 +71,10 @@ pub record Short (w : World) (q : ℕ) : Type 0 where
   pub full : w .used ≤ messages
   pub asked : isRequest (message w q .kind) ≡ true
 
-answers-fit : (w : World) (q : ℕ) (ks : List ℕ) → all (takenAnswer w q) ks ≡ true → all (within 1 (w .used)) ks ≡ true
+pub answers-fit : (w : World) (q : ℕ) (ks : List ℕ) → all (takenAnswer w q) ks ≡ true → all (within 1 (w .used)) ks ≡ true
 answers-fit w q ks = all-map (takenAnswer w q) (within 1 (w .used)) ks (λ j e. let i = taken-is w q j e in is-within 1 (w .used) j (i .low) (i .below))
 
-no-request : (w : World) (q r : ℕ) → isRequest (message w r .kind) ≡ true → takenAnswer w q r ≡ false
+pub no-request : (w : World) (q r : ℕ) → isRequest (message w r .kind) ≡ true → takenAnswer w q r ≡ false
 no-request w q r h = not-taken w q r (λ i. clash (eq-eqb _ _ (i .is)) (not-answer (message w r .kind) h))
 
 pub chained-of : (w : World) (q : ℕ) → Short w q → all (takenAnswer w q) (chain w q) ≡ true
@@ -213,7 +213,7 @@ module _ {w : World} {k r : ℕ} (u : Untaken w k r) where
       let s : follow w 1022 n ≡ chain w r = sym (follow-enough w 1022 n l) in
       ap (λ (m : MessageNumber). follow v 1022 (m .0)) v-next-answer ∙ walk-same r 1022 n (subst (λ (ks : List ℕ). all (takenAnswer w r) ks ≡ true) (sym s) (c .only)) ∙ s
 
-  chain-head : Chained w r → chain v r ≡ (k ∷ chain w r)
+  pub chain-head : Chained w r → chain v r ≡ (k ∷ chain w r)
   unfolding chain
   chain-head c =
       ap (λ (n : ℕ). follow v messages n) v-next-request ∙ follow-step v 1022 k (u .low) ∙ ap (λ (ks : List ℕ). k ∷ ks) (chain-rest c)

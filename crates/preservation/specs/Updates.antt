@@ -6,12 +6,12 @@ use native.Mathlib.Omega.{arith}
 use mathlib.Core.Bool.{Bool, true, false, not, _&&_, _||_}
 use mathlib.Core.Path.{_≡_, refl, sym, ap, ap₂, subst, _∙_}
 use mathlib.Core.Logic.{_⊎_, inl, inr, _≢_}
-use mathlib.Core.List.{List, []}
+use mathlib.Core.List.{List, [], _∷_}
 use lib.ListN.{length, length-set}
 use lib.Seq.{getD-set-other}
 use lib.Dec.{ltb, leb, eqb}
 use lib.Pow.{pow-mono}
-use borrow.Author.Tests.{ltb-true, leb-true, lt-ltb, le-leb, lt-leb, eq-eqb}
+use borrow.Author.Tests.{ltb-true, leb-true, lt-ltb, le-leb, lt-leb, eq-eqb, not-true}
 use Rattle.protocol.specs.declared.ViewNumber.{ViewNumber}
 use Rattle.protocol.specs.declared.MessageNumber.{MessageNumber}
 use Rattle.protocol.specs.declared.View.{View}
@@ -20,23 +20,24 @@ use Rattle.protocol.specs.declared.Client.{Client}
 use Rattle.protocol.specs.declared.Message.{Message}
 use Rattle.protocol.specs.declared.Administrator.{Administrator}
 use Rattle.protocol.specs.declared.Ending.{Ending}
-use Rattle.protocol.specs.declared.Ending.the-variants.{Settled, EndSent}
+use Rattle.protocol.specs.declared.Ending.the-variants.{EndSent}
 use Rattle.protocol.specs.Tools.{if, within, all, bitOf, replace}
 use Rattle.protocol.specs.Sizes.{clients, servers, views, messages, sized}
 use Rattle.protocol.specs.Entries.{entryFits}
 use Rattle.protocol.specs.Servers.{READ, END, ANSWER, isRequest}
-use Rattle.protocol.specs.Clients.{number, advance}
-use Rattle.protocol.specs.Worlds.{World, noMessage, view, server, client, message, newest, present, withServer, withClient, withView, withMessage, withAdministrator, send}
+use Rattle.protocol.specs.Clients.{number, isEnding, advance}
+use Rattle.protocol.specs.Worlds.{World, noMessage, view, server, client, message, newest, present, withServer, withClient, withView, withMessage, withAdministrator, send, asSent}
 use Rattle.protocol.specs.Chains.{follow, chain}
-use Rattle.protocol.specs.Steps.{link}
+use Rattle.protocol.specs.Steps.{link, emptied}
 use Rattle.protocol.specs.Readable.{isSent, endingFits, lastView, zeroView, viewFits, serverFits, phaseFits, clientRange, clientFits, tagRule, requestFits, nextFits, entryZero, senderFits, sentFits, zeroMessage, messageFits, takenAnswer, distinct}
-use Rattle.protocol.specs.Laws.Tests.{and-left, and-right, and-both, clash, within-true}
-use Rattle.protocol.specs.Laws.Worlds.{content, sent, length-replace, message-new, sent-send, sent-link, server-same, server-other, client-same, client-other, view-same, view-other}
-use Rattle.protocol.specs.Laws.Sound.{link-count, link-used}
+use Rattle.protocol.specs.Laws.Tests.{and-left, and-right, and-both, by-bool, clash, within-true, bit-le, or-first, or-second}
+use Rattle.protocol.specs.Laws.Worlds.{content, sent, length-replace, message-new, sent-send, sent-link, server-same, server-other, client-same, client-other, view-same, view-other, count-as}
+use Rattle.protocol.specs.Laws.Sound.{link-count, link-used, not-answer}
 use Rattle.protocol.specs.Laws.Formed.{Formed}
 use Rattle.preservation.specs.Formed.{and-first, and-then, Onward, ending-on, phase-on, sent-on, fits-on}
 use Rattle.preservation.specs.Chained.{Chained, chained, chain-fits, all-map, follow-same}
 use Rattle.preservation.specs.Links.{Untaken, Is, taken-is, is-taken, Short, chained-of, link-taken-other, v-taken, v-kind, v-other, link-chained}
+use Rattle.preservation.specs.Emptied.{Rooted, emptied-used, emptied-sent, among, emptied-in, emptied-out, among-is, before, beyond, emptied-kind, emptied-chained}
 
 -- ---- what the clauses say of one record
 
@@ -89,7 +90,7 @@ taken-same : (w v : World) → ((n : ℕ) → message v n ≡ message w n) → v
 unfolding takenAnswer present
 taken-same w v m u q k = rw (m k, u) refl
 
-short : {w : World} → Formed w → (q : ℕ) → 1 ≤ q → q ≤ w .used → isRequest (message w q .kind) ≡ true → Short w q
+pub short : {w : World} → Formed w → (q : ℕ) → 1 ≤ q → q ≤ w .used → isRequest (message w q .kind) ≡ true → Short w q
 short h q l u k = record { low = l; below = u; full = h .full; asked = k }
 
 -- ---- worlds with the messages of another
@@ -326,14 +327,6 @@ refit w m n c t x e =
         rw q (ap (λ (y : Message). present w (y .request .0) && isRequest (message w (y .request .0) .kind)) c ∙ (rw (eq-eqb (m .kind) ANSWER k) at e))
     asked (inr k) e = ap₂ (λ (y : Message) (b : Bool). if (eqb (y .kind) ANSWER) (present w (y .request .0) && isRequest (message w (y .request .0) .kind)) (not b && eqb (y .request .0) 0)) c k ∙ e
 
-or-first : (a b : Bool) → a ≡ true → (a || b) ≡ true
-or-first true b e = refl
-or-first false b e = clash e refl
-
-or-second : (a b : Bool) → b ≡ true → (a || b) ≡ true
-or-second true b e = refl
-or-second false b e = e
-
 next-fits : (w : World) (n : ℕ) → sentFits w (message w n) ≡ true → nextFits (message w n) ≡ true
 unfolding sentFits
 next-fits w n e =
@@ -388,6 +381,64 @@ module _ {w : World} (h : Formed w) {k r : ℕ} (u : Untaken w k r) where
         zero = rw (v-other u 0 (λ q. omega (arith, u .low)) (λ q. omega (arith, u .from))) (h .zero);
         mail = λ n a b. is-mail (link w k) n (λ j. linked-fits n a j) (λ j. rw (v-other u n (λ q. omega (arith, u .below)) (λ q. omega (arith, u .to))) (mail-zero h n j b));
         chained = λ q a b. chain-fits (link w k) q (λ i. let s = short h q a b (rw (v-kind u q) at i) in link-chained u q s (chained w q (h .chained q a b) (s .asked)));
+      }
+
+-- ---- a chain is emptied
+
+-- a request is not taken
+pub request-free : {w : World} → Formed w → (r : ℕ) → 1 ≤ r → r ≤ w .used → isRequest (message w r .kind) ≡ true → message w r .taken ≡ false
+unfolding sentFits
+request-free {w} h r l u k =
+    let m = message w r in
+    let e1 = and-right (within READ ANSWER (m .kind)) _ (mail-sent h r l u) in
+    let e2 = and-right (senderFits (m .kind) (m .sender)) _ e1 in
+    let e3 = and-right (tagRule (newest w) (m .kind) (m .view .0)) _ e2 in
+    not-true _ (and-left _ _ (rw (not-answer (m .kind) k) at (and-left (requestFits w m) _ e3)))
+
+module _ {w : World} (h : Formed w) {r : ℕ} (f : Rooted w r) where
+  emptied-newest : newest (emptied w r) ≡ newest w
+  unfolding emptied asSent
+  emptied-newest = refl
+
+  pub emptied-onward : Onward w (emptied w r)
+  emptied-onward = record { used = omega (arith, emptied-used f); newest = omega (arith, emptied-newest); same = λ i a b. emptied-sent f i }
+
+  emptied-fits : (n : ℕ) → 1 ≤ n → n ≤ w .used → sentFits (emptied w r) (message (emptied w r) n) ≡ true
+  unfolding sent content
+  emptied-fits n a b =
+      fits-on emptied-onward (message (emptied w r) n) (refit w (message w n) (message (emptied w r) n) (emptied-sent f n)
+      (marks (by-bool (among f n))) (nexts (by-bool (among f n))) (mail-sent h n a b))
+    where
+      free : (n ≡ r) ⊎ Is w r n → message (emptied w r) n .taken ≡ false → (message w n .kind ≡ ANSWER) ⊎ (message (emptied w r) n .taken ≡ message w n .taken)
+      free (inl q) t = inr (t ∙ sym (request-free h n a b (subst (λ (x : ℕ). isRequest (message w x .kind) ≡ true) (sym q) (f .short .asked))))
+      free (inr i) t = inl (i .is)
+
+      marks : (among f n ≡ true) ⊎ (among f n ≡ false) → (message w n .kind ≡ ANSWER) ⊎ (message (emptied w r) n .taken ≡ message w n .taken)
+      marks (inl e) = free (among-is f n e) (ap (λ (m : Message). m .taken) (emptied-in f n e))
+      marks (inr e) = inr (ap (λ (m : Message). m .taken) (emptied-out f n e))
+
+      nexts : (among f n ≡ true) ⊎ (among f n ≡ false) → nextFits (message (emptied w r) n) ≡ true
+      nexts (inl e) = or-second (isRequest (message (emptied w r) n .kind) || message (emptied w r) n .taken) _ (eq-eqb _ _ (ap (λ (m : Message). m .next .0) (emptied-in f n e)))
+      nexts (inr e) = ap nextFits (emptied-out f n e) ∙ next-fits w n (mail-sent h n a b)
+
+  pub formed-emptied : Formed (emptied w r)
+  unfolding emptied asSent viewFits lastView view serverFits server client
+  formed-emptied =
+      record {
+        viewCount = h .viewCount;
+        serverCount = h .serverCount;
+        clientCount = h .clientCount;
+        messageCount = count-as w (r ∷ chain w r) ∙ h .messageCount;
+        full = h .full;
+        low = h .low;
+        high = h .high;
+        ending = ending-on emptied-onward refl (w .administrator .ending) (h .ending);
+        viewed = h .viewed;
+        served = h .served;
+        client = λ c a b. keep-client emptied-onward c refl (h .client c a b);
+        zero = rw (emptied-out f 0 (before f)) (h .zero);
+        mail = λ n a b. is-mail (emptied w r) n (λ j. emptied-fits n a j) (λ j. rw (emptied-out f n (beyond f n j)) (mail-zero h n j b));
+        chained = λ q a b. chain-fits (emptied w r) q (λ i. let s = short h q a b (rw (emptied-kind f q) at i) in emptied-chained f q s (chained w q (h .chained q a b) (s .asked)));
       }
 
 -- ---- the administrator
@@ -451,7 +502,7 @@ is-view w t f g = go (decLe t (lastView w))
     go (yes h) = rw (le-leb t (lastView w) h) (f h)
     go (no h) = let l : lastView w < t = omega arith in rw (lt-leb t (lastView w) l) (g l)
 
-view-sized : (w : World) (t : ℕ) → viewFits w t ≡ true → t ≤ lastView w → sized (view w t) ≡ true
+pub view-sized : (w : World) (t : ℕ) → viewFits w t ≡ true → t ≤ lastView w → sized (view w t) ≡ true
 unfolding viewFits
 view-sized w t e h = rw (le-leb t (lastView w) h) at e
 
@@ -459,9 +510,9 @@ view-zero : (w : World) (t : ℕ) → viewFits w t ≡ true → lastView w < t �
 unfolding viewFits
 view-zero w t e h = rw (lt-leb t (lastView w) h) at e
 
--- "its members and f are recorded and END t is sent": m is that END, the last message
+-- "its members and f are recorded and END t is sent": r is that END, just sent or, for a restart, still open
 module _ {w : World} (h : Formed w) (v : View) (a : Administrator) (z : sized v ≡ true) (n : newest w < views) (p : a .newest ≡ w .administrator .newest) (r : ℕ) (q : a .ending ≡ EndSent (number r))
-    (s : w .administrator .ending ≡ Settled) (i : isSent w r END 0 ≡ true) (t : message w r .view .0 ≡ newest w) where
+    (i : isSent w r END 0 ≡ true) (t : message w r .view .0 ≡ newest w) where
   abbrev called : World
   called = withView (withAdministrator w a) (newest w + 1) v
 
@@ -473,9 +524,13 @@ module _ {w : World} (h : Formed w) (v : View) (a : Administrator) (z : sized v 
   unfolding lastView withView withAdministrator
   called-last = rw (p, q) refl
 
-  settled-last : lastView w ≡ newest w
+  last-low : newest w ≤ lastView w
   unfolding lastView
-  settled-last = rw s (omega arith)
+  last-low = omega arith
+
+  last-high : lastView w ≤ newest w + 1
+  unfolding lastView
+  last-high = omega (arith, bit-le (isEnding (w .administrator .ending)))
 
   called-same : (x : ℕ) → x ≢ newest w + 1 → view called x ≡ view w x
   unfolding withAdministrator view
@@ -491,8 +546,8 @@ module _ {w : World} (h : Formed w) (v : View) (a : Administrator) (z : sized v 
       go : Dec (x ≡ newest w + 1) → viewFits called x ≡ true
       go (yes d) = is-view called x (λ b. rw d (rw called-pending z)) (λ b. absurd (omega (arith, called-last)))
       go (no d) =
-          is-view called x (λ b. rw (called-same x d) (view-sized w x e (omega (arith, called-last, settled-last))))
-          (λ b. rw (called-same x d) (view-zero w x e (omega (arith, called-last, settled-last))))
+          is-view called x (λ b. rw (called-same x d) (view-sized w x e (omega (arith, called-last, last-low))))
+          (λ b. rw (called-same x d) (view-zero w x e (omega (arith, called-last, last-high))))
 
   called-onward : Onward w called
   unfolding withView withAdministrator sent message

@@ -110,6 +110,18 @@ call a v n =
     guard (not (isEnding (a .ending))) 4
     (guard (sized v && ltb (a .newest .0) views) 8 (done (record { newest = a .newest; ending = EndSent (number n) })))
 
+-- a restart of the administrator without member bits: the pending view stays
+abbrev pub keepsView : View → Bool
+keepsView v = eqb (v .members .0) 0
+
+-- "with value 0 both are 0, else 3": a restart that leaves the pending view names neither f nor a read size
+abbrev pub bareFits : View → Bool
+bareFits v = not (keepsView v) || (eqb (v .f) 0 && eqb (v .r) 0)
+
+-- "It restarted between END and START": its record stays as it is. "7, nothing is being ended; then 8."
+unfoldable pub restart : Administrator → View → Result Administrator
+restart a v = guard (isEnding (a .ending)) 7 (guard (keepsView v || sized v) 8 (done a))
+
 -- "t+1 becomes the newest"
 unfoldable pub advance : Administrator → Administrator
 advance a = record { newest = record { 0 = a .newest .0 + 1 }; ending = Settled }

@@ -15,4 +15,5 @@ pub mod Runs
 pub mod Sessions
 pub mod Exchanges
 pub mod TwoSizes
+pub mod Restarts
 pub mod Laws

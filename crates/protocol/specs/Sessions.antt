@@ -9,10 +9,10 @@ use Rattle.protocol.specs.Tools.{countTo, allTo, any, holds, bitOf, nth,
 use Rattle.protocol.specs.Sizes.{viewWith, quorum, size, sized, readSize, writeSize, oneExchange}
 use Rattle.protocol.specs.Entries.{entry, empty, below, larger, largest, chosen, same}
 use Rattle.protocol.specs.Servers.{WRITE, comparing, replacing, withoutKey, joining, gathering, serve, mayAnswer}
-use Rattle.protocol.specs.Clients.{WRITES, READS, number, begin, giveUp, nextCount, toWrite, givenBy, countLeft, close, call, advance}
-use Rattle.protocol.specs.Worlds.{World, view, server, client, message, newest, member, present, room, withServer, withClient, withView, withMessage, withAdministrator, send, listTo, freshWorld, fresh, bad, premise}
+use Rattle.protocol.specs.Clients.{WRITES, READS, number, begin, giveUp, nextCount, toWrite, givenBy, countLeft, close, call, advance, restart}
+use Rattle.protocol.specs.Worlds.{World, view, server, client, message, newest, member, present, room, withServer, withClient, withView, withMessage, withAdministrator, send, listTo, freshWorld, fresh, bad, premise, content, unlinked, asSent}
 use Rattle.protocol.specs.Chains.{follow, chain, heard, enough, shown, agreed}
-use Rattle.protocol.specs.Steps.{rowOf, fieldsFit, begins, givesUp, deliver, link, open?, closes, starts, takes, take, fault, source?, lie, newView, perform, step}
+use Rattle.protocol.specs.Steps.{rowOf, fieldsFit, begins, givesUp, deliver, link, open?, closes, starts, takes, take, fault, source?, lie, newView, perform, step, request, emptied, restarts}
 use Rattle.protocol.specs.Consistent.{Operation}
 use Rattle.protocol.specs.Runs.{stepOf, stepBytes, Replayed, replay, tracked, Run, run, runFrom, entryOf, operation, history}
 
@@ -46,6 +46,9 @@ new-view bits f = bytes 7 0 0 f 0 0 bits
 abbrev pub give-up : ℕ → List ℕ
 give-up c = bytes 8 c 0 0 0 0 0
 
+abbrev pub restart-with : ℕ → ℕ → ℕ → List ℕ
+restart-with bits f r = bytes 9 r 0 f 0 0 bits
+
 -- ---- what is computed of a run from the fresh world of given members and f, with one size for all
 
 abbrev pub begun : ℕ → ℕ → World
@@ -53,7 +56,7 @@ begun bits f = freshWorld (viewWith bits f 0)
 
 -- the run; whoever unfolds it unfolds all that a step computes with
 unfoldable pub run-of : ℕ → ℕ → List (List ℕ) → Run
-unfolding freshWorld listTo runFrom run tracked stepOf stepBytes step perform guard rowOf fieldsFit begins begin givesUp giveUp deliver serve comparing replacing withoutKey joining gathering take takes link open? closes close nextCount toWrite givenBy countLeft starts advance fault source? lie mayAnswer newView call enough heard shown agreed all same chain follow below larger largest quorum size sized readSize writeSize oneExchange countTo any holds bitOf nth replace view server client message member present room withServer withClient withView withMessage withAdministrator send
+unfolding freshWorld listTo runFrom run tracked stepOf stepBytes step perform guard rowOf fieldsFit begins begin givesUp giveUp deliver serve comparing replacing withoutKey joining gathering take takes link open? closes close nextCount toWrite givenBy countLeft starts advance fault source? lie mayAnswer newView call enough heard shown agreed all same chain follow below larger largest quorum size sized readSize writeSize oneExchange countTo any holds bitOf nth replace view server client message member present room withServer withClient withView withMessage withAdministrator send restarts restart emptied asSent unlinked content
 run-of bits f steps = runFrom (begun bits f) steps
 
 -- its operations

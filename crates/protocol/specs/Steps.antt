@@ -1,4 +1,4 @@
--- The steps of a world, kinds 1 to 8, each with its refusals in the order tested. Assumes nothing.
+-- The steps of a world, kinds 1 to 9, each with its refusals in the order tested. Assumes nothing.
 use Prim.Native.Nat.{ℕ, _+_, _/_, _%_}
 use mathlib.Core.Bool.{Bool, true, false, not, _&&_, _||_}
 use mathlib.Core.Option.{Option, none, some}
@@ -10,11 +10,11 @@ use Rattle.protocol.specs.Tools.{if, within, Result, done, guard, then}
 use Rattle.protocol.specs.Sizes.{clients, servers, views, messages, viewWith, writeSize, oneExchange}
 use Rattle.protocol.specs.Entries.{empty, chosen}
 use Rattle.protocol.specs.Servers.{READ, WRITE, END, START, ANSWER, serve, mayAnswer}
-use Rattle.protocol.specs.Clients.{WRITES, READS, number, begin, giveUp, requestOf, closeSize, close, endOf, call, advance}
-use Rattle.protocol.specs.Worlds.{World, view, server, client, message, newest, member, present, room, withServer, withClient, withView, withMessage, withAdministrator, send, nextNumber}
+use Rattle.protocol.specs.Clients.{WRITES, READS, number, begin, giveUp, requestOf, closeSize, close, endOf, call, keepsView, bareFits, restart, advance}
+use Rattle.protocol.specs.Worlds.{World, view, server, client, message, newest, member, present, room, withServer, withClient, withView, withMessage, withAdministrator, send, asSent, nextNumber}
 use Rattle.protocol.specs.Chains.{chain, enough, shown, agreed}
 
--- "1 write ... 2 read ... 3 deliver ... 4 take ... 5 fault ... 6 false answer ... 7 new view"; "a new step of kind 8"
+-- "1 write ... 2 read ... 3 deliver ... 4 take ... 5 fault ... 6 false answer ... 7 new view"; "a new step of kind 8"; "a step of kind 9"
 abbrev pub writeStep : ℕ
 writeStep = 1
 
@@ -38,6 +38,9 @@ viewStep = 7
 
 abbrev pub giveUpStep : ℕ
 giveUpStep = 8
+
+abbrev pub restartStep : ℕ
+restartStep = 9
 
 -- the fields that a step may use, a flag each; who is a client, a server or a read size
 abbrev pub CLIENT : ℕ
@@ -76,6 +79,7 @@ fieldTable =
     ∷ (SERVER + VIEW + MESSAGE + SOURCE)
     ∷ (SIZE + F + VALUE)
     ∷ CLIENT
+    ∷ (SIZE + F + VALUE)
     ∷ []
 
 unfoldable pub rowOf : ℕ → ℕ
@@ -138,16 +142,24 @@ whoRange row = if (inRow row CLIENT) clientRange (if (inRow row SERVER) serverRa
 abbrev pub field : Bool → Range → ℕ → Bool
 field used r x = if used (within (r .low) (r .high) x) (eqb x 0)
 
+-- "new view: f, value (member bits)", and the read size "in its who"; likewise a restart
+abbrev pub viewAsked : Step → View
+viewAsked st = viewWith (st .value) (st .f) (st .who)
+
+-- "with value 0 both are 0, else 3": of a restart
+abbrev pub restartFits : Step → Bool
+restartFits st = not (eqb (st .kind) restartStep) || bareFits (viewAsked st)
+
 -- "3, unknown kind, a field out of range or an unused field set" is what fails this.
 unfoldable pub fieldsFit : Step → Bool
 fieldsFit st =
-    within writeStep giveUpStep (st .kind)
+    within writeStep restartStep (st .kind)
     && (field (whoUsed (rowOf (st .kind))) (whoRange (rowOf (st .kind))) (st .who)
     && (field (uses (st .kind) VIEW) viewRange (st .view .0)
     && (field (uses (st .kind) F) thresholdRange (st .f)
     && (field (uses (st .kind) MESSAGE) messageRange (st .message .0)
     && (field (uses (st .kind) SOURCE) sourceRange (st .source .0)
-    && field (uses (st .kind) VALUE) valueRange (st .value))))))
+    && (field (uses (st .kind) VALUE) valueRange (st .value) && restartFits st))))))
 
 -- the world after an accepted step, and the client whose operation it completed, or 0
 pub record After : Type 0 where
@@ -267,9 +279,19 @@ newView w v =
     (λ a. guard (room w) 10
     (moved (send (withView (withAdministrator w a) (newest w + 1) v) (request END 0 (newest w) empty))))
 
--- "new view: f, value (member bits)", and the read size "in its who"
-abbrev pub viewAsked : Step → View
-viewAsked st = viewWith (st .value) (st .f) (st .who)
+-- "empties the chain of the open END and marks its answers untaken": the request r and its taken answers are as they were sent
+unfoldable pub emptied : World → ℕ → World
+emptied w r = asSent w (r ∷ chain w r)
+
+-- "A value other than 0 is new member bits for the pending view, with f, and r in who": view t, unless v has none
+abbrev pub planned : World → ℕ → View → World
+planned w t v = if (keepsView v) w (withView w t v)
+
+-- "The administrator's PC stops": "7, nothing is being ended; then 8."
+unfoldable pub restarts : World → View → Result After
+restarts w v =
+    then (restart (w .administrator) v)
+    (λ a. moved (planned (withAdministrator (emptied w (endOf (a .ending))) a) (newest w + 1) v))
 
 -- what a step does, by its kind
 unfoldable pub perform : World → Step → Result After
@@ -281,7 +303,8 @@ perform w st =
     (if (eqb (st .kind) faultStep) (fault w (st .who))
     (if (eqb (st .kind) falseStep) (lie w (st .who) (st .view .0) (st .message .0) (st .source .0))
     (if (eqb (st .kind) viewStep) (newView w (viewAsked st))
-    (givesUp w (st .who))))))))
+    (if (eqb (st .kind) giveUpStep) (givesUp w (st .who))
+    (restarts w (viewAsked st)))))))))
 
 -- a step of a world: 3, then by kind
 unfoldable pub step : World → Step → Result After

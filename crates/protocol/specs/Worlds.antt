@@ -84,6 +84,20 @@ unfoldable pub send : World → Message → World
 send w m =
     record { used = w .used + 1; administrator = w .administrator; viewList = w .viewList; serverList = w .serverList; clientList = w .clientList; messageList = set (w .messageList) (w .used + 1) m }
 
+-- a message as it was sent: not taken, and leading to none
+unfoldable pub content : Message → Message
+content m =
+    record { kind = m .kind; sender = m .sender; view = m .view; taken = false; request = m .request; next = number 0; entry = m .entry }
+
+-- the messages ks of a list as they were sent, the last of them first
+unfoldable pub unlinked : List Message → List ℕ → List Message
+unlinked l [] = l
+unlinked l (k ∷ ks) = set (unlinked l ks) k (content (getD (unlinked l ks) k noMessage))
+
+unfoldable pub asSent : World → List ℕ → World
+asSent w ks =
+    record { used = w .used; administrator = w .administrator; viewList = w .viewList; serverList = w .serverList; clientList = w .clientList; messageList = unlinked (w .messageList) ks }
+
 -- the number of the next message
 abbrev pub nextNumber : World → ℕ
 nextNumber w = w .used + 1

@@ -16,7 +16,7 @@ pub const WRITES: u8 = 1;
 
 pub const READS: u8 = 2;
 
-// The kinds of steps: "1 write", "2 read", "3 deliver", "4 take", "5 fault", "6 false answer", "7 new view"; 8, giving up.
+// The kinds of steps: "1 write", "2 read", "3 deliver", "4 take", "5 fault", "6 false answer", "7 new view"; 8, giving up; 9, the administrator restarted.
 pub const WRITE_STEP: u8 = 1;
 
 pub const READ_STEP: u8 = 2;
@@ -32,3 +32,5 @@ pub const FALSE_STEP: u8 = 6;
 pub const VIEW_STEP: u8 = 7;
 
 pub const GIVE_UP_STEP: u8 = 8;
+
+pub const RESTART_STEP: u8 = 9;

@@ -81,7 +81,7 @@ pub struct Message {
     pub entry: Entry,
 }
 
-// A step: kind 1 write, 2 read, 3 deliver, 4 take, 5 fault, 6 false answer, 7 new view, 8 giving up.
+// A step: kind 1 write, 2 read, 3 deliver, 4 take, 5 fault, 6 false answer, 7 new view, 8 giving up, 9 the administrator restarted.
 pub struct Step {
     pub kind: u8,
     pub who: u8,
@@ -148,7 +148,7 @@ pub enum Closing {
     Completed(Client),
 }
 
-// The administrator calls a new view: a refusal, or its record with END sent.
+// What the administrator does: a refusal, or its record after it. A new view called, a restart, END closed.
 pub enum Called {
     CallRefused(u8),
     Calling(Administrator),

@@ -17,7 +17,7 @@ pub const NO_MESSAGE: u8 = 5;
 // "6, the server is faulty and the kind is 1 to 3", "6, faulty already", "6, server not faulty"
 pub const FAULT_STATE: u8 = 6;
 
-// "7, the server's rule does not apply", "7, taken before, or its request is neither that of an open phase nor the END number"
+// "7, the server's rule does not apply", "7, taken before, or its request is neither that of an open phase nor the END number", "7, nothing is being ended"
 pub const NOT_APPLICABLE: u8 = 7;
 
 // "8, size rule broken", "or newest is 32"

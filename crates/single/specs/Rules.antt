@@ -14,8 +14,8 @@ use Rattle.protocol.specs.Tools.{bit, if, Result, refused, done, guard, numberO
 use Rattle.protocol.specs.Servers.{Reply}
 use Rattle.protocol.specs.Entries.{empty, same}
 use Rattle.protocol.specs.Clients.{Close}
-use Rattle.protocol.specs.Steps.{writeStep, readStep, deliverStep, takeStep, falseStep, viewStep, giveUpStep}
-use Rattle.checked.specs.Rules.{serveRule, falseAnswerRule, writeRule, readRule, giveUpRule, closeRule, callRule, advanceRule}
+use Rattle.protocol.specs.Steps.{writeStep, readStep, deliverStep, takeStep, falseStep, viewStep, giveUpStep, restartStep}
+use Rattle.checked.specs.Rules.{serveRule, falseAnswerRule, writeRule, readRule, giveUpRule, closeRule, callRule, restartRule, advanceRule}
 
 -- the record stays as it is, and nothing is answered by the rule itself
 abbrev pub stays : Server → ℕ → Result Reply
@@ -61,7 +61,15 @@ clientRule c rule who n e flag =
     guard (flagFits rule flag) 3 (if (eqb rule giveUpStep) (droppingRule c who n e) (operationRule c rule who n e (eqb flag 1)))
 
 -- 7 new view v, END being number n; 4 the close of END
-unfoldable pub administratorRule : Administrator → ℕ → ℕ → View → Result Administrator
-administratorRule a rule n v =
+unfoldable pub callingRule : Administrator → ℕ → ℕ → View → Result Administrator
+callingRule a rule n v =
     if (eqb rule viewStep) (callRule a v n)
     (guard (eqb rule takeStep) 3 (guard (eqb n 0) 3 (guard (eqb (v .members .0) 0) 3 (guard (eqb (v .f) 0) 3 (guard (eqb (v .r) 0) 3 (advanceRule a))))))
+
+-- 9 a restart with the pending view v: what the rule does not use is zero
+unfoldable pub restartingRule : Administrator → ℕ → View → Result Administrator
+restartingRule a n v = guard (eqb n 0) 3 (restartRule a v)
+
+-- the administrator's rules: those on views, and a restart
+unfoldable pub administratorRule : Administrator → ℕ → ℕ → View → Result Administrator
+administratorRule a rule n v = if (eqb rule restartStep) (restartingRule a n v) (callingRule a rule n v)

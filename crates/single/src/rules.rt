@@ -2,7 +2,7 @@
 ghost use mathlib.Core.Path.{_≡_};
 ghost use Rattle.protocol.specs.Servers.{served};
 ghost use Rattle.protocol.specs.Clients.{begun, givenUp, closing, called};
-ghost use Rattle.single.specs.Rules.{serverRule, clientRule, operationRule, droppingRule, flagFits, administratorRule, opens, blankStamp};
+ghost use Rattle.single.specs.Rules.{serverRule, clientRule, operationRule, droppingRule, flagFits, administratorRule, callingRule, restartingRule, opens, blankStamp};
 use checked::rules;
 use protocol::Administrator;
 use protocol::Begun;
@@ -22,6 +22,7 @@ use protocol::kinds::DELIVER_STEP;
 use protocol::kinds::FALSE_STEP;
 use protocol::kinds::GIVE_UP_STEP;
 use protocol::kinds::READ_STEP;
+use protocol::kinds::RESTART_STEP;
 use protocol::kinds::TAKE_STEP;
 use protocol::kinds::VIEW_STEP;
 use protocol::kinds::WRITE_STEP;
@@ -146,9 +147,19 @@ pub fn client_rule(c: Client, rule: u8, who: u8, n: MessageNumber, e: Entry, fla
     operation_rule(c, rule, who, n, e, flag == 1)
 }
 
-// The administrator's rules, by the kinds of their steps: 7 new view, 4 the close of END by an answer taken.
-pub fn administrator_rule(a: Administrator, rule: u8, n: MessageNumber, v: View) -> Called
-    ensures { λ r. ⌜ called r ≡ administratorRule a rule (n .0) v ⌝ }
+// The administrator restarted. What the rule does not use is zero.
+fn restarting_rule(a: Administrator, n: MessageNumber, v: View) -> Called
+    ensures { λ r. ⌜ called r ≡ restartingRule a (n .0) v ⌝ }
+{
+    if n.0 != 0 {
+        return Called::CallRefused(UNFIT);
+    }
+    rules::restart_rule(a, v)
+}
+
+// The administrator's rules on views, by the kinds of their steps: 7 new view, 4 the close of END by an answer taken.
+fn calling_rule(a: Administrator, rule: u8, n: MessageNumber, v: View) -> Called
+    ensures { λ r. ⌜ called r ≡ callingRule a rule (n .0) v ⌝ }
 {
     if rule == VIEW_STEP {
         return rules::call_rule(a, v, n);
@@ -170,4 +181,14 @@ pub fn administrator_rule(a: Administrator, rule: u8, n: MessageNumber, v: View)
         return Called::CallRefused(UNFIT);
     }
     rules::advance_rule(a)
+}
+
+// The administrator's rules, by the kinds of their steps: those on views, and 9 a restart.
+pub fn administrator_rule(a: Administrator, rule: u8, n: MessageNumber, v: View) -> Called
+    ensures { λ r. ⌜ called r ≡ administratorRule a rule (n .0) v ⌝ }
+{
+    if rule == RESTART_STEP {
+        return restarting_rule(a, n, v);
+    }
+    calling_rule(a, rule, n, v)
 }

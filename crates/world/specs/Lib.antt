@@ -7,4 +7,5 @@ pub mod Puts
 pub mod Views
 pub mod Takes
 pub mod Gathered
+pub mod Restarts
 pub mod Performs

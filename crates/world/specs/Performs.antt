@@ -10,7 +10,7 @@ use Rattle.protocol.specs.declared.Step.{Step}
 use Rattle.protocol.specs.Tools.{guard}
 use Rattle.protocol.specs.Clients.{WRITES, READS}
 use Rattle.protocol.specs.Worlds.{World}
-use Rattle.protocol.specs.Steps.{begins, deliver, take, fault, lie, newView, givesUp, fieldsFit, perform, step, viewAsked}
+use Rattle.protocol.specs.Steps.{begins, deliver, take, fault, lie, newView, givesUp, restarts, fieldsFit, perform, step, viewAsked}
 use Rattle.protocol.specs.Runs.{stepWidth, stepOf}
 use Rattle.codec.specs.Layout.{imageSize}
 use Rattle.codec.specs.Images.{decode}
@@ -57,7 +57,12 @@ module _ (w : World) (st : Step) where
   pub as-give-up : st .kind ≡ 8 → perform w st ≡ givesUp w (st .who)
   unfolding perform
   as-give-up e =
-      rw (sym (kind-is 8 1 e), sym (kind-is 8 2 e), sym (kind-is 8 3 e), sym (kind-is 8 4 e), sym (kind-is 8 5 e), sym (kind-is 8 6 e), sym (kind-is 8 7 e)) refl
+      rw (sym (kind-is 8 1 e), sym (kind-is 8 2 e), sym (kind-is 8 3 e), sym (kind-is 8 4 e), sym (kind-is 8 5 e), sym (kind-is 8 6 e), sym (kind-is 8 7 e), sym (kind-is 8 8 e)) refl
+
+  pub as-restart : st .kind ≡ 9 → perform w st ≡ restarts w (viewAsked st)
+  unfolding perform
+  as-restart e =
+      rw (sym (kind-is 9 1 e), sym (kind-is 9 2 e), sym (kind-is 9 3 e), sym (kind-is 9 4 e), sym (kind-is 9 5 e), sym (kind-is 9 6 e), sym (kind-is 9 7 e), sym (kind-is 9 8 e)) refl
 
 -- ---- check 3
 

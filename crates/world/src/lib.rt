@@ -2,6 +2,7 @@
 pub mod clients;
 mod holders;
 pub mod mail;
+pub mod restarts;
 pub mod servers;
 pub mod step;
 pub mod take;

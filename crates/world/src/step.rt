@@ -2,7 +2,7 @@
 ghost use mathlib.Core.Bool.{true};
 ghost use mathlib.Core.Path.{_≡_};
 ghost use lib.ListN.{length};
-ghost use Rattle.protocol.specs.Steps.{fieldsFit, perform as performOn, step as stepOf};
+ghost use Rattle.protocol.specs.Steps.{fieldsFit, perform as performOn, step as stepOf, viewAsked};
 ghost use Rattle.protocol.specs.Runs.{stepWidth, stepOf as stepIn};
 ghost use Rattle.codec.specs.Images.{decode};
 ghost use Rattle.image.specs.Steps.{stepOn};
@@ -10,6 +10,7 @@ ghost use Rattle.world.specs.Images.{Legible, Does};
 use super::Stepped;
 use super::clients::begins;
 use super::clients::gives_up;
+use super::restarts::restarts;
 use super::servers::deliver;
 use super::servers::false_answer;
 use super::servers::fault;
@@ -27,7 +28,18 @@ use protocol::View;
 use protocol::kinds::READS;
 use protocol::kinds::WRITES;
 
-// "1 write ... 2 read ... 3 deliver ... 4 take ... 5 fault ... 6 false answer ... 7 new view", and 8, giving up
+// "new view: f, value (member bits)", and the read size "in its who"; likewise a restart.
+fn view_asked(st: Step) -> View
+    ensures { λ r. ⌜ r ≡ viewAsked st ⌝ }
+{
+    View {
+        members: ServerSet(st.value),
+        f: st.f,
+        r: st.who,
+    }
+}
+
+// "1 write ... 2 read ... 3 deliver ... 4 take ... 5 fault ... 6 false answer ... 7 new view"; 8, giving up; 9, the administrator restarted
 fn perform(image: &mut [u8], st: Step) -> Stepped
     requires { ⌜ Legible (now image) × (fieldsFit st ≡ true) ⌝ }
     ensures { λ r. ⌜ Does r (now (image .entry)) (now (image .exit)) (performOn (decode (now (image .entry))) st) ⌝ }
@@ -44,15 +56,9 @@ fn perform(image: &mut [u8], st: Step) -> Stepped
         4 => take(image, n),
         5 => fault(image, ServerNumber(who)),
         6 => false_answer(image, ServerNumber(who), t, n, source),
-        7 => new_view(
-            image,
-            View {
-                members: ServerSet(st.value),
-                f: st.f,
-                r: who,
-            },
-        ),
-        _ => gives_up(image, who),
+        7 => new_view(image, view_asked(st)),
+        8 => gives_up(image, who),
+        _ => restarts(image, view_asked(st)),
     }
 }
 

@@ -66,7 +66,7 @@ fn taken_with(image: &[u8], k: MessageNumber, size: u32) -> Taken
 }
 
 // A message with its mark and its link.
-fn linked(m: Message, taken: bool, next: MessageNumber) -> Message
+pub fn linked(m: Message, taken: bool, next: MessageNumber) -> Message
     ensures { λ r. ⌜ r ≡ linkedOf m taken next ⌝ }
 {
     let view = m.view;

@@ -3,6 +3,7 @@
 
 use crate::codec::image_of;
 use crate::compare::check::Comparison;
+use crate::compare::restarts::{every_cut, long_chains, mixed_chains};
 use crate::generate::answers::list;
 use crate::generate::calls::{administrator_call, client_call, server_call, spoil_call};
 use crate::generate::journals::{any_read_size, journal};
@@ -44,6 +45,11 @@ pub fn run_all(comparison: &mut Comparison, steps: usize, journals: usize, seed:
     every_clause(comparison, &mut draws);
     whole_journals(comparison, &mut draws, journals);
     loads(comparison, &mut draws);
+    // In a run of the least size restarts at every length.
+    let apart = STEPS.div_ceil(steps.max(1));
+    long_chains(comparison, apart);
+    mixed_chains(comparison);
+    every_cut(comparison, &mut draws, apart);
     broken_premises(comparison, &mut draws, journals);
     logs(comparison, &mut draws, steps / 4);
     lists(comparison, &mut draws, steps);
@@ -486,7 +492,7 @@ fn resumed(comparison: &mut Comparison, draws: &mut Draws, fresh: &[u8], journal
 
 /// Replays the journal; after each stop the refused step is tried again, then
 /// left out and the rest replayed on the same image.
-fn replay_past_refusals(
+pub fn replay_past_refusals(
     comparison: &mut Comparison,
     image: &[u8],
     journal: &[u8],

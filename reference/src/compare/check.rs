@@ -442,6 +442,10 @@ impl<'a> Comparison<'a> {
             Ok(_) => self.counts.accept(operation),
             Err(reason) => self.counts.refuse(operation, reason),
         }
+        if let Some(rule) = asked.first() {
+            let number = ours.map_or_else(|reason| reason.number(), |_| 0);
+            self.counts.asked(operation, *rule, number);
+        }
         let what = format!("{operation:?} {record:?} asked {asked:?} ({ours:?})");
         let mut lent = Lent::new(asked);
         let expected = lent.bytes.clone();

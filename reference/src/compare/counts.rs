@@ -21,6 +21,7 @@ pub enum Operation {
     FalseAnswer,
     NewView,
     GiveUp,
+    Restart,
     /// A step of a kind that does not exist, or of no byte at all.
     OtherKind,
     Premise,
@@ -38,7 +39,7 @@ pub enum Operation {
     Administrator,
 }
 
-pub const OPERATIONS: [Operation; 23] = [
+pub const OPERATIONS: [Operation; 24] = [
     Operation::Fresh,
     Operation::Quorum,
     Operation::Write,
@@ -49,6 +50,7 @@ pub const OPERATIONS: [Operation; 23] = [
     Operation::FalseAnswer,
     Operation::NewView,
     Operation::GiveUp,
+    Operation::Restart,
     Operation::OtherKind,
     Operation::Premise,
     Operation::Replay,
@@ -76,9 +78,32 @@ impl Operation {
             Some(&step_kind::FALSE_ANSWER) => Operation::FalseAnswer,
             Some(&step_kind::NEW_VIEW) => Operation::NewView,
             Some(&step_kind::GIVE_UP) => Operation::GiveUp,
+            Some(&step_kind::RESTART) => Operation::Restart,
             _ => Operation::OtherKind,
         }
     }
+}
+
+/// What is met around a restart of the administrator.
+#[derive(Clone, Copy, Debug, PartialEq, Eq, PartialOrd, Ord)]
+pub enum Around {
+    /// The restart itself.
+    Restarted,
+    /// An answer that it marked untaken is taken again, and END stays open.
+    TakenAgain,
+    /// The same of an answer with another view than the newest, which counts for
+    /// nothing.
+    ForNothing,
+    /// An answer that was not taken before is taken, and END stays open.
+    Late,
+    /// An answer closes END.
+    Closed,
+    /// An answer that would close END is refused: no number is left for START.
+    NoNumber,
+    /// An answer after END has closed is refused.
+    TooLate,
+    /// A restart after END has closed is refused.
+    RefusedAfter,
 }
 
 /// The last refusal's number.
@@ -94,6 +119,11 @@ pub struct Counts {
     pub clauses: BTreeMap<Clause, u64>,
     /// Steps after which the premise first did not hold, by what was asked.
     pub broke: BTreeMap<Operation, u64>,
+    /// What was met around a restart, by whether the pending view is a new one
+    /// and by the length of the chain that it emptied.
+    pub around: BTreeMap<(Around, bool, usize), u64>,
+    /// Calls of single machines, by rule and refusal; number 0 is acceptance.
+    pub rules: BTreeMap<(Operation, u8, u8), u64>,
 }
 
 impl Counts {
@@ -112,6 +142,16 @@ impl Counts {
     /// The premise held before this step and not after it.
     pub fn broke(&mut self, operation: Operation) {
         *self.broke.entry(operation).or_default() += 1;
+    }
+
+    /// This was met around a restart that emptied a chain of this length.
+    pub fn around(&mut self, met: Around, renewed: bool, length: usize) {
+        *self.around.entry((met, renewed, length)).or_default() += 1;
+    }
+
+    /// A single machine was asked for this rule.
+    pub fn asked(&mut self, operation: Operation, rule: u8, number: u8) {
+        *self.rules.entry((operation, rule, number)).or_default() += 1;
     }
 
     /// An image was unreadable by these clauses.

@@ -6,3 +6,4 @@ pub mod check;
 pub mod counts;
 pub mod library;
 pub mod report;
+pub mod restarts;

@@ -1,9 +1,11 @@
 //! The comparison's result in words and numbers.
 
+use std::collections::BTreeSet;
 use std::fmt::Write;
 
 use crate::compare::check::Comparison;
-use crate::compare::counts::{LAST_REFUSAL, OPERATIONS};
+use crate::compare::counts::{Around, LAST_REFUSAL, OPERATIONS};
+use crate::record::step_kind;
 
 /// Every refusal must be met at least this often.
 pub const LEAST: u64 = 50;
@@ -14,6 +16,8 @@ pub fn report(comparison: &Comparison) -> String {
     refusals(comparison, &mut text);
     paths(comparison, &mut text);
     deeds(comparison, &mut text);
+    around(comparison, &mut text);
+    rules(comparison, &mut text);
     broken(comparison, &mut text);
     clauses(comparison, &mut text);
     for told in &comparison.told {
@@ -115,6 +119,54 @@ fn broken(comparison: &Comparison, text: &mut String) {
     );
     for (operation, count) in &comparison.counts.broke {
         line(text, &format!("{:40}{count:>8}", format!("{operation:?}")));
+    }
+    line(text, "");
+}
+
+fn around(comparison: &Comparison, text: &mut String) {
+    line(
+        text,
+        "Around a restart, by the lengths of the chain that it empties (least and most often at one)",
+    );
+    let counts = &comparison.counts.around;
+    let sorts: BTreeSet<(Around, bool)> = counts.keys().map(|(met, new, _)| (*met, *new)).collect();
+    for (met, renewed) in sorts {
+        let at: Vec<(usize, u64)> = counts
+            .iter()
+            .filter(|((a, b, _), _)| (*a, *b) == (met, renewed))
+            .map(|((_, _, length), count)| (*length, *count))
+            .collect();
+        let (first, last) = (at[0].0, at[at.len() - 1].0);
+        let least = at.iter().map(|(_, count)| *count).min().unwrap_or(0);
+        let most = at.iter().map(|(_, count)| *count).max().unwrap_or(0);
+        let view = if renewed { "new view" } else { "same view" };
+        line(
+            text,
+            &format!(
+                "{:14}{view:12}{:>5} lengths, {first} to {last}: {least} to {most}",
+                format!("{met:?}"),
+                at.len(),
+            ),
+        );
+    }
+    line(text, "");
+}
+
+fn rules(comparison: &Comparison, text: &mut String) {
+    line(
+        text,
+        "Calls of single machines by rule and refusal (0: done)",
+    );
+    for ((operation, rule, number), count) in &comparison.counts.rules {
+        if (1..=step_kind::LAST).contains(rule) {
+            line(
+                text,
+                &format!(
+                    "{:14}rule {rule}{number:>4}{count:>8}",
+                    format!("{operation:?}")
+                ),
+            );
+        }
     }
     line(text, "");
 }

@@ -108,7 +108,7 @@ fn a_client(idle: Client, draws: &mut Draws) -> Client {
     }
 }
 
-/// The administrator calls a view, or its END closes.
+/// The administrator calls a view, it restarts, or its END closes.
 pub fn administrator_call(world: &World, draws: &mut Draws) -> Call {
     let end = ADMINISTRATOR_AT + ADMINISTRATOR_SIZE;
     let record = world.header.bytes()[ADMINISTRATOR_AT..end].to_vec();
@@ -126,7 +126,20 @@ pub fn administrator_call(world: &World, draws: &mut Draws) -> Call {
             r: any_read_size(draws, n, f),
             ..View::default()
         };
-        [&[step_kind::NEW_VIEW, 0, n0, n1][..], &view.bytes()].concat()
+        match draws.below(5) {
+            0 => [&[step_kind::RESTART, 0, 0, 0][..], &view.bytes()].concat(),
+            1 => {
+                // Without members, and seldom with a threshold or a size.
+                let [f, r] = [0; 2].map(|_| draws.chance(20));
+                let bare = View {
+                    f: u8::from(f),
+                    r: u8::from(r),
+                    ..View::default()
+                };
+                [&[step_kind::RESTART, 0, 0, 0][..], &bare.bytes()].concat()
+            }
+            _ => [&[step_kind::NEW_VIEW, 0, n0, n1][..], &view.bytes()].concat(),
+        }
     } else {
         [&[step_kind::TAKE, 0, 0, 0][..], &View::default().bytes()].concat()
     };

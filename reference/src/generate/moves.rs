@@ -5,7 +5,7 @@ use crate::generate::journals::draw_view;
 use crate::generate::profile::{Faults, Move, Profile};
 use crate::generate::steps::odd_step;
 use crate::layout::{LAST_CLIENT, LAST_SERVER, STEP_SIZE};
-use crate::record::Step;
+use crate::record::{step_kind, Step};
 use crate::rules::Rules;
 use crate::step::step;
 use crate::world::{bit, message_kind, phase, View, World};
@@ -21,7 +21,13 @@ pub struct Run {
     seen: u16,
     begun: usize,
     reached: u32,
+    /// The last END that saw a restart, and how many it saw.
+    restarted: (u16, usize),
 }
+
+/// An END sees no more restarts than that, so that a run gets somewhere and one
+/// that is stuck ends.
+const RESTARTS_OF_AN_END: usize = 3;
 
 impl Run {
     pub fn new(world: World, draws: Draws) -> Run {
@@ -34,6 +40,7 @@ impl Run {
             seen: 0,
             begun: 0,
             reached: u32::MAX,
+            restarted: (0, 0),
         }
     }
 
@@ -56,8 +63,32 @@ impl Run {
         if matches!(record.kind, 1 | 2) {
             self.begun += 1;
         }
+        if record.kind == step_kind::RESTART {
+            self.note_untaken();
+        }
         self.note_messages();
         true
+    }
+
+    /// After a restart the answers to END wait to be taken again.
+    fn note_untaken(&mut self) {
+        let end = self.world.header.end;
+        self.restarted = (end, self.restarts_of(end) + 1);
+        for number in 1..=self.seen {
+            let message = &self.world.messages[usize::from(number)];
+            let answers = message.kind == message_kind::ANSWER && message.request == end;
+            if answers && !self.untaken.contains(&number) {
+                self.untaken.push(number);
+            }
+        }
+    }
+
+    fn restarts_of(&self, end: u16) -> usize {
+        if self.restarted.0 == end {
+            self.restarted.1
+        } else {
+            0
+        }
     }
 
     fn note_messages(&mut self) {
@@ -84,6 +115,7 @@ impl Run {
             Move::Lie => self.lie()?,
             Move::NewView => self.new_view(profile)?,
             Move::GiveUp => self.give_up()?,
+            Move::Restart => self.restart(profile)?,
             Move::Odd => return Some(odd_step(&self.world, &mut self.draws)),
         };
         Some(record.bytes().to_vec())
@@ -236,6 +268,20 @@ impl Run {
         let View { members, f, r, .. } = draw_view(&mut self.draws, profile);
         let stuck = (self.faulty() & members).count_ones() > u32::from(f);
         (!stuck || self.allows_stuck(profile)).then(|| Step::sized_view(members, f, r))
+    }
+
+    /// A restart while END is open, with a new pending view half of the times.
+    fn restart(&mut self, profile: &Profile) -> Option<Step> {
+        let end = self.world.header.end;
+        if !self.world.is_ending() || self.restarts_of(end) == RESTARTS_OF_AN_END {
+            return None;
+        }
+        if self.draws.chance(50) {
+            return Some(Step::restart(0, 0, 0));
+        }
+        let View { members, f, r, .. } = draw_view(&mut self.draws, profile);
+        let stuck = (self.faulty() & members).count_ones() > u32::from(f);
+        (!stuck || self.allows_stuck(profile)).then(|| Step::restart(members, f, r))
     }
 
     fn fault(&mut self, profile: &Profile) -> Option<Step> {

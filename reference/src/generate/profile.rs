@@ -30,11 +30,13 @@ pub enum Move {
     NewView,
     /// A client gives its open operation up.
     GiveUp,
+    /// The administrator restarts while it ends a view.
+    Restart,
     /// A step drawn with no care, most often refused.
     Odd,
 }
 
-pub const MOVES: [Move; 10] = [
+pub const MOVES: [Move; 11] = [
     Move::Begin,
     Move::Deliver,
     Move::DeliverLate,
@@ -44,6 +46,7 @@ pub const MOVES: [Move; 10] = [
     Move::Lie,
     Move::NewView,
     Move::GiveUp,
+    Move::Restart,
     Move::Odd,
 ];
 
@@ -92,7 +95,7 @@ pub const STORM: Profile = Profile {
     steps: 220,
     operations: 8,
     faults: Faults::Within,
-    weights: [6, 30, 4, 10, 30, 2, 14, 3, 2, 1],
+    weights: [6, 30, 4, 10, 30, 2, 14, 3, 2, 3, 1],
     partings: 5,
 };
 
@@ -105,7 +108,7 @@ pub const STILL: Profile = Profile {
     steps: 160,
     operations: 8,
     faults: Faults::Within,
-    weights: [6, 30, 4, 0, 30, 2, 12, 0, 2, 1],
+    weights: [6, 30, 4, 0, 30, 2, 12, 0, 2, 0, 1],
     partings: 8,
 };
 
@@ -113,7 +116,7 @@ pub const STILL: Profile = Profile {
 pub const WRECK: Profile = Profile {
     name: "wreck",
     faults: Faults::Beyond,
-    weights: [6, 30, 4, 10, 30, 5, 20, 3, 2, 1],
+    weights: [6, 30, 4, 10, 30, 5, 20, 3, 2, 3, 1],
     ..STORM
 };
 
@@ -126,7 +129,7 @@ pub const GLIMPSE: Profile = Profile {
     steps: 220,
     operations: 12,
     faults: Faults::Within,
-    weights: [20, 15, 0, 0, 30, 0, 0, 0, 2, 1],
+    weights: [20, 15, 0, 0, 30, 0, 0, 0, 2, 0, 1],
     partings: 20,
 };
 
@@ -140,7 +143,7 @@ pub const FULL: Profile = Profile {
     steps: 6000,
     operations: usize::MAX,
     faults: Faults::Within,
-    weights: [20, 120, 3, 25, 130, 1, 6, 1, 2, 0],
+    weights: [20, 120, 3, 25, 130, 1, 6, 1, 2, 1, 0],
     partings: 1,
 };
 
@@ -153,7 +156,7 @@ pub const WIDE: Profile = Profile {
     steps: 6000,
     operations: usize::MAX,
     faults: Faults::Beyond,
-    weights: [8, 150, 10, 40, 150, 4, 20, 1, 1, 0],
+    weights: [8, 150, 10, 40, 150, 4, 20, 1, 1, 1, 0],
     partings: 0,
 };
 
@@ -166,7 +169,7 @@ pub const TINY: Profile = Profile {
     steps: 60,
     operations: usize::MAX,
     faults: Faults::Beyond,
-    weights: [10, 20, 4, 8, 20, 1, 4, 2, 3, 1],
+    weights: [10, 20, 4, 8, 20, 1, 4, 2, 3, 2, 1],
     partings: 0,
 };
 
@@ -179,7 +182,7 @@ pub const RUSH: Profile = Profile {
     steps: 3000,
     operations: usize::MAX,
     faults: Faults::Within,
-    weights: [3, 40, 4, 40, 40, 1, 6, 20, 1, 0],
+    weights: [3, 40, 4, 40, 40, 1, 6, 20, 1, 20, 0],
     partings: 2,
 };
 
@@ -192,7 +195,7 @@ pub const RESTARTS: Profile = Profile {
     steps: 320,
     operations: 16,
     faults: Faults::Within,
-    weights: [10, 30, 2, 6, 30, 1, 4, 1, 3, 1],
+    weights: [10, 30, 2, 6, 30, 1, 4, 1, 3, 1, 1],
     partings: 20,
 };
 
@@ -206,7 +209,7 @@ pub const LATECOMERS: Profile = Profile {
     steps: 250,
     operations: usize::MAX,
     faults: Faults::Beyond,
-    weights: [3, 30, 2, 40, 40, 4, 3, 12, 1, 0],
+    weights: [3, 30, 2, 40, 40, 4, 3, 12, 1, 2, 0],
     partings: 0,
 };
 

@@ -54,6 +54,7 @@ pub fn aimed_step_of(kind: u8, world: &World, draws: &mut Draws) -> Step {
         step_kind::FAULT => Step::fault(any_server(draws)),
         step_kind::FALSE_ANSWER => false_answer(world, draws),
         step_kind::GIVE_UP => Step::give_up(any_client(draws)),
+        step_kind::RESTART => restart(draws),
         _ => new_view(draws),
     }
 }
@@ -175,6 +176,18 @@ fn false_answer(world: &World, draws: &mut Draws) -> Step {
         a_message(world, draws, 85, |kind| kind == message_kind::WRITE)
     };
     Step::false_answer(server, view, message, source)
+}
+
+/// A restart, half of the times without members.
+fn restart(draws: &mut Draws) -> Step {
+    if draws.chance(50) {
+        return Step::restart(0, 0, 0);
+    }
+    let view = new_view(draws);
+    if view.value == 0 {
+        return Step::restart(0, 0, 0);
+    }
+    Step::restart(view.value, view.f, view.who)
 }
 
 fn new_view(draws: &mut Draws) -> Step {

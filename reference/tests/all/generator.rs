@@ -5,9 +5,10 @@ use std::collections::BTreeSet;
 
 use reference::compare::cases::{run_all, short_journals, JOURNALS, STEPS};
 use reference::compare::check::Comparison;
-use reference::compare::counts::Operation;
+use reference::compare::counts::{Around, Counts, Operation};
 use reference::compare::library::Reference;
 use reference::compare::report::{is_good, LEAST};
+use reference::compare::restarts::{LONGEST, LONGEST_MIXED};
 use reference::generate::journals::journal;
 use reference::generate::profile::{FULL, PROFILES, RUSH, STORM, WRECK};
 use reference::history::operations::{run, stamps_differ};
@@ -137,7 +138,7 @@ fn used_fields(operation: Operation) -> &'static [(Field, bool)] {
         Operation::Deliver => &[(Who, true), (Message, true)],
         Operation::Take => &[(Message, true)],
         Operation::FalseAnswer => &[(Who, true), (View, true), (Message, true), (Source, true)],
-        Operation::NewView => &[(Who, false), (F, false), (Value, false)],
+        Operation::NewView | Operation::Restart => &[(Who, false), (F, false), (Value, false)],
         _ => &[],
     }
 }
@@ -181,6 +182,13 @@ fn own_refusals(operation: Operation) -> Vec<Reason> {
             NoNumber,
         ],
         Operation::GiveUp => vec![ClientIdle],
+        Operation::Restart => vec![
+            Unused(Field::Who),
+            Unused(Field::F),
+            NothingEnding,
+            SizeRule,
+            ReadSize,
+        ],
         Operation::NewView => vec![EndingAlready, SizeRule, ReadSize, LastView, NoNumber],
         _ => vec![],
     }
@@ -328,6 +336,7 @@ fn every_path() -> BTreeSet<(Operation, Reason)> {
         Operation::FalseAnswer,
         Operation::NewView,
         Operation::GiveUp,
+        Operation::Restart,
     ];
     for operation in steps {
         for reason in [Reason::ImageLength, Reason::StepLength, Reason::Unreadable] {
@@ -369,6 +378,8 @@ fn every_deed() -> BTreeSet<Deed> {
         Deed::Lied,
         Deed::Ending,
         Deed::GaveUp,
+        Deed::Restarted { renewed: false },
+        Deed::Restarted { renewed: true },
     ]);
     deeds.extend(waits.map(Deed::Closed));
     deeds.extend(waits.map(Deed::LeftOpen));
@@ -381,6 +392,38 @@ fn every_deed() -> BTreeSet<Deed> {
         Deed::WroteBack(Differ::Value),
     ]);
     deeds
+}
+
+/// Restarts at every length of the chain, with a new pending view and without,
+/// followed by takes again and by late answers; each of their refusals, in the
+/// world and of the administrator alone.
+fn restarts_are_met(counts: &Counts) {
+    let lengths = [
+        (Around::Restarted, 0..=LONGEST),
+        (Around::TakenAgain, 1..=LONGEST),
+        (Around::ForNothing, 1..=LONGEST_MIXED),
+        // Late answers: END stays open, closes, or finds no number for START.
+        (Around::Late, 0..=30),
+        (Around::Closed, 0..=LONGEST - 2),
+        (Around::NoNumber, LONGEST - 1..=LONGEST - 1),
+        // Once END has closed.
+        (Around::TooLate, 0..=LONGEST - 3),
+        (Around::RefusedAfter, 0..=LONGEST - 2),
+    ];
+    for (around, lengths) in lengths {
+        for (length, renewed) in lengths.flat_map(|length| [(length, false), (length, true)]) {
+            let met = counts.around.contains_key(&(around, renewed, length));
+            assert!(met, "never met: {around:?} {renewed} {length}");
+        }
+    }
+    for reason in own_refusals(Operation::Restart) {
+        let met = counts.refused[&(Operation::Restart, reason)];
+        assert!(met >= LEAST, "{reason:?} {met} times");
+    }
+    for number in [0, 1, 3, 7, 8] {
+        let met = counts.rules.get(&(Operation::Administrator, 9, number));
+        assert!(met.is_some_and(|met| *met >= LEAST), "{number} {met:?}");
+    }
 }
 
 #[test]
@@ -418,6 +461,7 @@ fn the_cases_reach_every_refusal_by_every_path_and_every_close() {
     for (deed, count) in &counts.deeds {
         assert!(*count >= 20, "{deed:?} {count} times");
     }
+    restarts_are_met(counts);
     for clause in Clause::ALL {
         assert!(
             counts.clauses.contains_key(clause),

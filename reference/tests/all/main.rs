@@ -13,6 +13,7 @@ mod program;
 mod quorum;
 mod readable;
 mod refusals;
+mod restart;
 mod shorten;
 mod single;
 mod traps;

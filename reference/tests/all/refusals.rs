@@ -122,7 +122,7 @@ fn an_unreadable_image_comes_before_an_unknown_kind() {
 }
 
 /// For each kind a step with its used fields set, and those fields.
-fn steps_with_used_fields() -> [(Step, &'static [Field]); 8] {
+fn steps_with_used_fields() -> [(Step, &'static [Field]); 9] {
     use Field::{Message, Source, Value, View, Who, F};
     [
         (Step::write(16, u32::MAX), &[Who, Value]),
@@ -136,6 +136,7 @@ fn steps_with_used_fields() -> [(Step, &'static [Field]); 8] {
         ),
         (Step::sized_view(u32::MAX, 255, 255), &[Who, F, Value]),
         (Step::give_up(16), &[Who]),
+        (Step::restart(u32::MAX, 255, 255), &[Who, F, Value]),
     ]
 }
 
@@ -178,7 +179,7 @@ fn a_used_field_is_in_range() {
             let (below, above) = match field {
                 Field::Who if matches!(step.kind, 1 | 2 | 8) => (Some(0), Some(17)),
                 // Any read size: 8 judges it.
-                Field::Who if step.kind == 7 => (None, None),
+                Field::Who if matches!(step.kind, 7 | 9) => (None, None),
                 Field::Who | Field::View => (Some(0), Some(33)),
                 Field::Message => (Some(0), Some(1024)),
                 Field::Source => (None, Some(1024)),
@@ -195,8 +196,8 @@ fn a_used_field_is_in_range() {
 }
 
 #[test]
-fn kinds_are_1_to_8() {
-    for kind in (0..=255).filter(|kind| !(1..=8).contains(kind)) {
+fn kinds_are_1_to_9() {
+    for kind in (0..=255).filter(|kind| !(1..=9).contains(kind)) {
         let step = Step {
             kind,
             ..Step::default()

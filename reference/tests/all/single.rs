@@ -145,13 +145,13 @@ fn a_client_does_what_begins_and_closes_do() {
 }
 
 #[test]
-fn the_administrator_does_what_new_view_and_a_closing_end_do() {
+fn the_administrator_does_what_new_view_a_restart_and_a_closing_end_do() {
     let mut draws = Draws::new(14);
     let end = ADMINISTRATOR_AT + ADMINISTRATOR_SIZE;
-    let (mut called, mut advanced) = (0, 0);
+    let (mut called, mut advanced, mut restarted) = (0, 0, 0);
     for _ in 0..3000 {
         let before = world(&mut draws);
-        let kind = *draws.pick(&[4, 4, 4, 7]).unwrap();
+        let kind = *draws.pick(&[4, 4, 4, 7, 9]).unwrap();
         let record = aimed_step_of(kind, &before, &mut draws);
         let mut after = before.clone();
         let outcome = step::<Sound>(&mut after, &record);
@@ -164,6 +164,7 @@ fn the_administrator_does_what_new_view_and_a_closing_end_do() {
         };
         let asked = match (kind, outcome) {
             (7, _) if before.header.used < 1023 => [&[7, 0, n0, n1][..], &view.bytes()].concat(),
+            (9, _) => [&[9, 0, 0, 0][..], &view.bytes()].concat(),
             (4, Ok(done)) if done.deed == Deed::Closed(Close::End) => {
                 [&[4, 0, 0, 0][..], &View::default().bytes()].concat()
             }
@@ -173,16 +174,19 @@ fn the_administrator_does_what_new_view_and_a_closing_end_do() {
         match (administrator_call(&mut bytes, &asked), outcome) {
             (Ok(()), Ok(_)) => {
                 assert_eq!(bytes, after.header.bytes()[ADMINISTRATOR_AT..end]);
-                *(if kind == 4 {
-                    &mut advanced
-                } else {
-                    &mut called
+                *(match kind {
+                    4 => &mut advanced,
+                    7 => &mut called,
+                    _ => &mut restarted,
                 }) += 1;
             }
             (one, other) => assert_eq!(one.unwrap_err(), other.unwrap_err()),
         }
     }
-    assert!(called > 50 && advanced > 20, "{called}, {advanced}");
+    assert!(
+        called > 50 && advanced > 20 && restarted > 50,
+        "{called}, {advanced}, {restarted}"
+    );
 }
 
 #[test]

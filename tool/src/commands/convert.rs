@@ -47,8 +47,10 @@ FILE       a text; - is standard input. The lines of a journal, their fields in 
              false-answer server=1 view=1 message=5 source=3
              new-view members=1,2,3,4 f=1 r=3
              give-up client=1
-             raw bytes=090000000000000000000000
-           r is the read size of a view; it is left out where it is 0, a quorum.
+             restart members=1,2,3,4 f=1 r=3
+             raw bytes=0a0000000000000000000000
+           r is the read size of a view; it is left out where it is 0, a quorum. A restart that leaves the pending view as it is
+           is the word `restart` alone.
 --log      the lines are those of a log:
              write begin=1 end=2 count=1 writer=1 value=7
              read begin=3 end=0 count=1 writer=1 value=7

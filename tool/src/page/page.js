@@ -280,13 +280,16 @@ function serverLine(svg, s) {
   }
 }
 
-// END and START where the administrator sends them.
+// END and START where the administrator sends them, and where it restarts.
 function calls(svg) {
+  const called = (k, words) => {
+    svg.append(drawn("circle", { cx: middle(k), cy: place.a, r: 3, class: "head" }));
+    svg.append(drawn("text", { x: middle(k) - 6, y: place.a + 4, class: "plain called" }, words));
+  };
   for (let k = 1; k <= last; k++) {
     const sent = worlds[k].used > worlds[k - 1].used ? worlds[k].messages.get(worlds[k].used) : null;
-    if (!sent || (sent.kind !== "END" && sent.kind !== "START")) continue;
-    svg.append(drawn("circle", { cx: middle(k), cy: place.a, r: 3, class: "head" }));
-    svg.append(drawn("text", { x: middle(k) - 6, y: place.a + 4, class: "plain called" }, `${sent.kind} ${sent.view}`));
+    if (sent && (sent.kind === "END" || sent.kind === "START")) called(k, `${sent.kind} ${sent.view}`);
+    if (step(k).refusal === 0 && step(k).text.split(" ")[0] === "restart") called(k, "restart");
   }
 }
 

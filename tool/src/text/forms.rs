@@ -26,6 +26,8 @@ pub struct Form {
     pub word: &'static str,
     pub kind: u8,
     pub fields: &'static [Field],
+    /// Whether the word stands alone where all its fields are 0.
+    pub bare: bool,
 }
 
 /// The records of a file. `kind_at` is the place of the kind, where they have
@@ -72,8 +74,19 @@ const R: Field = Field {
 };
 
 const fn form(word: &'static str, kind: u8, fields: &'static [Field]) -> Form {
-    Form { word, kind, fields }
+    Form {
+        word,
+        kind,
+        fields,
+        bare: false,
+    }
 }
+
+/// A restart of the administrator: alone it leaves the pending view as it is.
+const RESTART: Form = Form {
+    bare: true,
+    ..form("restart", 9, &[MEMBERS, F, R])
+};
 
 /// Steps, and the first record of an input, which makes the world.
 pub const JOURNAL: Format = Format {
@@ -89,6 +102,7 @@ pub const JOURNAL: Format = Format {
         form("false-answer", 6, &[SERVER, VIEW, MESSAGE, SOURCE]),
         form("new-view", 7, &[MEMBERS, F, R]),
         form("give-up", 8, &[CLIENT]),
+        RESTART,
     ],
 };
 

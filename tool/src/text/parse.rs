@@ -98,15 +98,22 @@ fn fields(format: &Format, form: &Form, words: &mut Words) -> Result<Vec<u8>, Wr
     if let Some(place) = format.kind_at {
         record[place] = form.kind;
     }
-    for field in form.fields {
-        let number = value(field, &words.next())?;
+    for (place, field) in form.fields.iter().enumerate() {
+        let bare = form.bare && place == 0;
+        let word = words.next();
+        if bare && word.text.is_empty() {
+            break;
+        }
+        let number = value(field, bare, &word)?;
         let bytes = number.to_le_bytes();
         record[field.at..field.at + field.width].copy_from_slice(&bytes[..field.width]);
     }
     Ok(record)
 }
 
-fn value(field: &Field, word: &Word) -> Result<u32, Wrong> {
+/// A field's number. The line may end before a field that is left out where it
+/// is 0, and, if it is `bare`, before this one.
+fn value(field: &Field, bare: bool, word: &Word) -> Result<u32, Wrong> {
     let last = u32::MAX >> (32 - 8 * field.width);
     let shape = match field.shape {
         Shape::Number => format!("a number from 0 to {last}"),
@@ -116,7 +123,7 @@ fn value(field: &Field, word: &Word) -> Result<u32, Wrong> {
         return Ok(0);
     }
     let Some(text) = named(field.name, word.text) else {
-        let end = if field.left_out {
+        let end = if field.left_out || bare {
             ", or the end of the line"
         } else {
             ""

@@ -8,6 +8,9 @@ use super::forms::{Field, Form, Format, Shape, RAW, RAW_FIELD};
 pub fn print(format: &Format, record: &[u8]) -> String {
     let fitting = format.forms.iter().find(|form| fits(format, form, record));
     match fitting {
+        Some(form) if form.bare && form.fields.iter().all(|field| of(field, record) == 0) => {
+            form.word.to_string()
+        }
         Some(form) => {
             let fields = form.fields.iter();
             let fields = fields.filter(|field| !field.left_out || of(field, record) != 0);

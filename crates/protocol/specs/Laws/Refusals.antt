@@ -16,9 +16,9 @@ use Rattle.protocol.specs.Types.{Entry, View, Server, Phase, Idle, Readi
 use Rattle.protocol.specs.Tools.{if, within, Result, refused, done, guard, then, numberOf}
 use Rattle.protocol.specs.Sizes.{quorumSize, writeSize}
 use Rattle.protocol.specs.Servers.{READ, WRITE, END, START, start, serve, mayAnswer}
-use Rattle.protocol.specs.Clients.{begin, giveUp, closeSize, closeBy, close, call, READS}
+use Rattle.protocol.specs.Clients.{begin, giveUp, closeSize, closeBy, close, call, restart, READS}
 use Rattle.protocol.specs.Worlds.{World, view, client, message, newest, fresh}
-use Rattle.protocol.specs.Steps.{After, answers, takenWith, begins, deliver, closes, starts, takes, take, fault, lie, newView, givesUp, perform, step}
+use Rattle.protocol.specs.Steps.{After, answers, takenWith, begins, deliver, closes, starts, takes, take, fault, lie, newView, givesUp, restarts, perform, step}
 use Rattle.protocol.specs.Chains.{enough}
 use Rattle.protocol.specs.Runs.{stepBytes, Replayed, onward, replay}
 use Rattle.protocol.specs.Laws.Tests.{and-left, and-right, or-cases, within-true}
@@ -150,6 +150,10 @@ pub call-refuses : (a : Administrator) (v : View) (n : ℕ) → Refuses (4 ∷ 8
 unfolding call
 call-refuses a v n = refuses-guard _ _ _ _ refl (refuses-guard _ _ _ _ refl (refuses-done _ _))
 
+pub restart-refuses : (a : Administrator) (v : View) → Refuses (7 ∷ 8 ∷ []) (restart a v)
+unfolding restart
+restart-refuses a v = refuses-guard _ _ _ _ refl (refuses-guard _ _ _ _ refl (refuses-done _ _))
+
 -- ---- the steps of a world, by kind
 
 -- "Write, read: 4, client not idle; 10"
@@ -218,6 +222,11 @@ gives-up-refuses : (w : World) (c : ℕ) → Refuses (12 ∷ []) (givesUp w c)
 unfolding givesUp giveUp
 gives-up-refuses w c = refuses-then _ _ _ (refuses-guard _ _ _ _ refl (refuses-done _ _)) (λ a. refuses-done _ _)
 
+-- "The administrator's PC stops": "7, nothing is being ended; then 8."
+restarts-refuses : (w : World) (v : View) → Refuses (7 ∷ 8 ∷ []) (restarts w v)
+unfolding restarts
+restarts-refuses w v = refuses-then _ _ _ (restart-refuses _ _) (λ a. refuses-done _ _)
+
 perform-refuses : (w : World) (st : Step) → Refuses refusals (perform w st)
 unfolding perform
 perform-refuses w st =
@@ -228,7 +237,8 @@ perform-refuses w st =
     (refuses-if _ (eqb (st .kind) 5) _ _ (refuses-more (6 ∷ []) _ _ refl (fault-refuses _ _))
     (refuses-if _ (eqb (st .kind) 6) _ _ (refuses-more (5 ∷ 6 ∷ 9 ∷ 10 ∷ []) _ _ refl (lie-refuses _ _ _ _ _))
     (refuses-if _ (eqb (st .kind) 7) _ _ (refuses-more (4 ∷ 8 ∷ 10 ∷ []) _ _ refl (new-view-refuses _ _))
-    (refuses-more (12 ∷ []) _ _ refl (gives-up-refuses _ _))))))))
+    (refuses-if _ (eqb (st .kind) 8) _ _ (refuses-more (12 ∷ []) _ _ refl (gives-up-refuses _ _))
+    (refuses-more (7 ∷ 8 ∷ []) _ _ refl (restarts-refuses _ _)))))))))
 
 pub step-refuses : (w : World) (st : Step) → Refuses refusals (step w st)
 unfolding step

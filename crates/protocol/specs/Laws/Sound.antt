@@ -12,17 +12,17 @@ use lib.ListN.{length, length-set}
 use lib.Dec.{eqb}
 use borrow.Author.Tests.{leb-true, eqb-true, eq-eqb, ne-eqb}
 use Rattle.protocol.specs.Types.{Entry, Message}
-use Rattle.protocol.specs.Tools.{if, all}
+use Rattle.protocol.specs.Tools.{if, any, all}
 use Rattle.protocol.specs.Sizes.{clients, servers, views, messages, sized}
 use Rattle.protocol.specs.Entries.{chosen, same}
 use Rattle.protocol.specs.Servers.{READ, END, ANSWER, isRequest}
 use Rattle.protocol.specs.Clients.{isEnding}
-use Rattle.protocol.specs.Worlds.{World, view, message, newest, withMessage, send}
+use Rattle.protocol.specs.Worlds.{World, view, message, newest, withMessage, send, asSent}
 use Rattle.protocol.specs.Chains.{follow, chain, tagged, heard, enough, shown, agreed}
 use Rattle.protocol.specs.Steps.{link, takenWith}
 use Rattle.protocol.specs.Laws.Tests.{and-left, and-right, clash, last-or, Each, none, both, any-found, within-true}
 use Rattle.protocol.specs.Laws.Entries.{Listed, head, tail, chosen-le, chosen-one, same-is}
-use Rattle.protocol.specs.Laws.Worlds.{content, sent, message-same, message-other, sent-link, sent-send, message-send, message-new}
+use Rattle.protocol.specs.Laws.Worlds.{content, sent, message-same, message-other, sent-link, sent-send, message-send, message-new, message-as, sent-as, count-as}
 use Rattle.protocol.specs.Laws.Change.{Votes, To, Chosen, Asked, Showed}
 
 -- message k is an answer to request r
@@ -200,6 +200,22 @@ mail-link {w} h k l e =
         rw q (rw (root-request (sent w r) r (ask .is), link-request w k (omega (arith, h .count, h .full, ask .below)))
         (on (record { below = l; is = e; request = refl })))
     go i n (no p) (no q) = rw (link-other w k i p q) (h .links i n)
+
+-- messages are as they were sent
+pub used-as : (w : World) (ks : List ℕ) → asSent w ks .used ≡ w .used
+unfolding asSent
+used-as w ks = refl
+
+sent-next : (w : World) (i : ℕ) → sent w i .next .0 ≡ 0
+unfolding sent content
+sent-next w i = refl
+
+pub mail-as : {w : World} → Mail w → (ks : List ℕ) → Mail (asSent w ks)
+mail-as {w} h ks = mail-same h (count-as w ks) (used-as w ks) (sent-as w ks) (λ i l. rw (message-as w ks i) (go i l (any (eqb i) ks)))
+  where
+    go : (i : ℕ) → i ≤ w .used → (b : Bool) → Linked w (root (sent w i) i) (if b (sent w i) (message w i) .next .0)
+    go i l true = nowhere (sent-next w i)
+    go i l false = h .links i l
 
 -- ---- the views after a step
 

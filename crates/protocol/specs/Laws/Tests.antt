@@ -22,6 +22,14 @@ pub and-both : (x y : Bool) → x ≡ true → y ≡ true → (x && y) ≡ true
 and-both true y e f = f
 and-both false y e f = e
 
+pub or-first : (x y : Bool) → x ≡ true → (x || y) ≡ true
+or-first true y e = refl
+or-first false y e = cc
+
+pub or-second : (x y : Bool) → y ≡ true → (x || y) ≡ true
+or-second true y e = refl
+or-second false y e = e
+
 pub or-cases : (x y : Bool) → (x || y) ≡ true → (x ≡ true) ⊎ (y ≡ true)
 or-cases true y e = inl refl
 or-cases false y e = inr e
@@ -67,7 +75,7 @@ unfolding allTo
 all-to p zero f = refl
 all-to p (suc n) f = and-both _ _ (all-to p n (λ i l h. f i l (omega arith))) (f (suc n) (omega arith) (le-refl _))
 
-bit-le : (b : Bool) → bit b ≤ 1
+pub bit-le : (b : Bool) → bit b ≤ 1
 bit-le true = omega arith
 bit-le false = omega arith
 

@@ -1,4 +1,4 @@
--- Every accepted step of a client or of the administrator satisfies the relation: write, read, take, new view; so every
+-- Every accepted step of a client or of the administrator satisfies the relation: write, read, take, new view, giving up, a restart; so every
 -- accepted step does. Assumes nothing.
 use Prim.Native.Nat.{ℕ, zero, suc, _+_, _≤_, _<_}
 use native.Mathlib.Decide.{ℕ-discrete, decLe}
@@ -6,6 +6,7 @@ use native.Mathlib.Omega.{arith}
 use mathlib.Core.Bool.{Bool, true, false, not, _&&_, _||_}
 use mathlib.Core.Path.{_≡_, refl, sym, ap, _∙_, subst}
 use mathlib.Core.Logic.{_⊎_, inl, inr, _≢_}
+use mathlib.Core.List.{List}
 use lib.ListN.{length, List·getD-eq-default}
 use lib.Dec.{eqb}
 use borrow.Author.Tests.{ltb-true, eqb-true, eqb-false}
@@ -14,15 +15,15 @@ use Rattle.protocol.specs.Tools.{if, nth, Result, refused, done, guard, 
 use Rattle.protocol.specs.Sizes.{clients, views, messages, sized, readSize, writeSize}
 use Rattle.protocol.specs.Entries.{entry, empty, chosen}
 use Rattle.protocol.specs.Servers.{READ, WRITE, END, START, ANSWER}
-use Rattle.protocol.specs.Clients.{WRITES, READS, number, isIdle, requestOf, begin, giveUp, closeSize, toWrite, givenBy, Close, writeNext, completeWith, once, closeBy, close, isEnding, endOf, call, advance}
-use Rattle.protocol.specs.Worlds.{World, noClient, view, server, client, message, newest, present, room, withClient, withView, withMessage, withAdministrator, send, nextNumber}
+use Rattle.protocol.specs.Clients.{WRITES, READS, number, isIdle, requestOf, begin, giveUp, closeSize, toWrite, givenBy, Close, writeNext, completeWith, once, closeBy, close, isEnding, endOf, call, advance, countLeft, keepsView, restart}
+use Rattle.protocol.specs.Worlds.{World, noClient, view, server, client, message, newest, present, room, withClient, withView, withMessage, withAdministrator, send, nextNumber, asSent}
 use Rattle.protocol.specs.Chains.{enough, shown, agreed}
-use Rattle.protocol.specs.Steps.{After, moved, request, begins, link, open?, takenWith, atOnce, closes, starts, takes, take, newView, givesUp, deliver, fault, lie, fieldsFit, writeStep, readStep, deliverStep, takeStep, faultStep, falseStep, viewStep, giveUpStep, rowOf, viewAsked, step}
+use Rattle.protocol.specs.Steps.{After, moved, request, begins, link, open?, takenWith, atOnce, closes, starts, takes, take, newView, givesUp, deliver, fault, lie, fieldsFit, writeStep, readStep, deliverStep, takeStep, faultStep, falseStep, viewStep, giveUpStep, rowOf, viewAsked, step, emptied, planned, restarts, restartStep}
 use Rattle.protocol.specs.Laws.Tests.{and-left, and-right, or-cases, clash, within-true, went}
 use Rattle.protocol.specs.Laws.Sizes.{covered}
-use Rattle.protocol.specs.Laws.Worlds.{content, sent, sent-link, client-same, client-other, view-same, view-other, length-replace}
+use Rattle.protocol.specs.Laws.Worlds.{content, sent, sent-link, client-same, client-other, view-same, view-other, length-replace, sent-as}
 use Rattle.protocol.specs.Laws.Change.{Votes, To, Chosen, Started, Closed, Kept, Agreed, Acted, same, exchanged, began, wrote, ended, gave-up, New, none as unsent}
-use Rattle.protocol.specs.Laws.Sound.{Sized, Sound, mail-same, mail-link, sized-same, sound-send, Taking, close-votes, close-agreed, close-chosen, link-count}
+use Rattle.protocol.specs.Laws.Sound.{Sized, Sound, mail-same, mail-link, sized-same, sound-send, Taking, close-votes, close-agreed, close-chosen, link-count, mail-as}
 use Rattle.protocol.specs.Laws.Kinds.{IsClient, client-of, server-of, by-kind}
 use Rattle.protocol.specs.Laws.Moves.{done-is, apart, is-done, grew-refl, Post, post, posted, quiet, idle-acted, room-left, present-is, Lawful, fault-lawful, deliver-lawful, lie-lawful}
 
@@ -481,12 +482,9 @@ views-kept : (w : World) (a : Administrator) → length (withAdministrator w a .
 unfolding withAdministrator
 views-kept w a = refl
 
-module _ {w : World} (h : Sound w) (v : View) (a : Administrator) (z : sized v ≡ true) (n : newest w < views) (p : a .newest ≡ w .administrator .newest) (l : w .used < messages) where
+module _ {w : World} (h : Sound w) (v : View) (a : Administrator) (z : sized v ≡ true) (n : newest w < views) (p : a .newest ≡ w .administrator .newest) where
   abbrev called : World
   called = withView (withAdministrator w a) (newest w + 1) v
-
-  abbrev ending : Message
-  ending = request END 0 (newest w) empty
 
   called-view : (t : ℕ) → t ≤ newest w → view called t ≡ view w t
   unfolding withAdministrator view
@@ -522,33 +520,46 @@ module _ {w : World} (h : Sound w) (v : View) (a : Administrator) (z : sized v �
         clientCount = h .clientCount;
       }
 
-  called-client : (c : ℕ) → client (send called ending) c ≡ client w c
-  unfolding send withView withAdministrator client
+  called-client : (c : ℕ) → client called c ≡ client w c
+  unfolding withView withAdministrator client
   called-client c = refl
 
   called-server : (s : ℕ) → server called s ≡ server w s
   unfolding withView withAdministrator server
   called-server s = refl
 
-  call-post : Post w (send called ending) ending
+  called-sent : (i : ℕ) → sent called i ≡ sent w i
   unfolding withView withAdministrator sent message
-  call-post = post w called ending (h .mail) l refl refl (λ i. refl)
+  called-sent i = refl
 
   called-used : called .used ≡ w .used
   unfolding withView withAdministrator
   called-used = refl
 
-  call-lawful : (kind : ℕ) → Lawful w (send called ending) 0 0 kind
-  unfolding content
-  call-lawful kind =
-      record {
-        sound = sound-send called-sound ending (omega (arith, called-used)) refl (apart END ANSWER refl);
-        moved = record {
-          change = quiet called ending call-post called-server called-view
-              (record { answer = apart END ANSWER refl; start = apart END START refl; write = apart END WRITE refl }) (inl called-newest);
-          acted = idle-acted called-client;
-        };
-      }
+  -- and END is sent
+  module _ (l : w .used < messages) where
+    abbrev ending : Message
+    ending = request END 0 (newest w) empty
+
+    ending-client : (c : ℕ) → client (send called ending) c ≡ client w c
+    unfolding send client
+    ending-client c = called-client c
+
+    call-post : Post w (send called ending) ending
+    unfolding withView withAdministrator
+    call-post = post w called ending (h .mail) l refl refl called-sent
+
+    call-lawful : (kind : ℕ) → Lawful w (send called ending) 0 0 kind
+    unfolding content
+    call-lawful kind =
+        record {
+          sound = sound-send called-sound ending (omega (arith, called-used)) refl (apart END ANSWER refl);
+          moved = record {
+            change = quiet called ending call-post called-server called-view
+                (record { answer = apart END ANSWER refl; start = apart END START refl; write = apart END WRITE refl }) (inl called-newest);
+            acted = idle-acted ending-client;
+          };
+        }
 
 -- "New view": accepted
 pub newView-lawful : {w : World} → Sound w → (v : View) (a : After) → newView w v ≡ done a → (kind : ℕ) → Lawful w (a .world) (a .completed) 0 kind
@@ -560,6 +571,70 @@ newView-lawful {w} h v a e kind =
     let (l, e1) = passed _ _ _ _ (g .on) in
     subst (λ (x : After). Lawful w (x .world) (x .completed) 0 kind) (done-is e1)
     (call-lawful h v (g .value) (and-left _ _ z) (ltb-true _ _ (and-right (sized v) _ z)) (ap (λ (x : Administrator). x .newest) (is-done f2)) (room-left w l) kind)
+
+-- ---- a restart
+
+-- the messages ks are as they were sent
+module _ {w : World} (h : Sound w) (ks : List ℕ) where
+  as-sound : Sound (asSent w ks)
+  unfolding asSent view
+  as-sound =
+      record {
+        mail = mail-as (h .mail) ks;
+        sized = sized-same (h .sized) refl refl;
+        serverCount = h .serverCount;
+        clientCount = h .clientCount;
+      }
+
+  -- and the pending view is v, if it has members
+  module _ (v : View) (s : (keepsView v || sized v) ≡ true) (e : isEnding (w .administrator .ending) ≡ true) where
+    abbrev restarted : World
+    restarted = planned (withAdministrator (asSent w ks) (w .administrator)) (newest w + 1) v
+
+    kept-lawful : (kind : ℕ) → Lawful w (withAdministrator (asSent w ks) (w .administrator)) 0 0 kind
+    unfolding withAdministrator asSent server view client
+    kept-lawful kind =
+        record {
+          sound = as-sound;
+          moved = record {
+            change = record { old = λ i l. sent-as w ks i; posted = unsent refl refl; views = λ t l. refl; grew = λ s. grew-refl (server w s) };
+            acted = idle-acted (λ c. refl);
+          };
+        }
+
+    replaced-lawful : sized v ≡ true → (kind : ℕ) → Lawful w (withView (withAdministrator (asSent w ks) (w .administrator)) (newest w + 1) v) 0 0 kind
+    unfolding asSent server view client
+    replaced-lawful z kind =
+        let b : newest w < views = h .sized .pending e .1 in
+        record {
+          sound = called-sound as-sound v (w .administrator) z b refl;
+          moved = record {
+            change = record {
+              old = λ i l. called-sent as-sound v (w .administrator) z b refl i ∙ sent-as w ks i;
+              posted = unsent (called-used as-sound v (w .administrator) z b refl) (called-newest as-sound v (w .administrator) z b refl);
+              views = called-view as-sound v (w .administrator) z b refl;
+              grew = λ s. rw (called-server as-sound v (w .administrator) z b refl s) (grew-refl (server w s));
+            };
+            acted = idle-acted (called-client as-sound v (w .administrator) z b refl);
+          };
+        }
+
+    restart-lawful : (kind : ℕ) → Lawful w restarted 0 0 kind
+    restart-lawful kind = go (keepsView v) s
+      where
+        go : (b : Bool) → (b || sized v) ≡ true
+            → Lawful w (if b (withAdministrator (asSent w ks) (w .administrator)) (withView (withAdministrator (asSent w ks) (w .administrator)) (newest w + 1) v)) 0 0 kind
+        go true z = kept-lawful kind
+        go false z = replaced-lawful z kind
+
+-- "The administrator's PC stops": accepted
+pub restarts-lawful : {w : World} → Sound w → (v : View) (a : After) → restarts w v ≡ done a → (kind : ℕ) → Lawful w (a .world) (a .completed) 0 kind
+unfolding restarts restart emptied
+restarts-lawful {w} h v a e kind =
+    let g = went _ _ _ e in
+    let (p, f1) = passed _ _ _ _ (g .is) in
+    let (z, f2) = passed _ _ _ _ f1 in
+    subst (λ (x : After). Lawful w (x .world) (x .completed) 0 kind) (done-is (g .on)) (rw (is-done f2) (restart-lawful h _ v z p kind))
 
 -- ---- every step
 
@@ -581,6 +656,7 @@ step-lawful {w} h st a e =
     (λ q e. rw q (lie-lawful h (st .who) (st .view .0) (st .message .0) (st .source .0) a e falseStep))
     (λ q e. rw q (newView-lawful h (viewAsked st) a e viewStep))
     (λ q e. rw q (givesUp-lawful h (client-of st giveUpStep f q refl) a e giveUpStep))
+    (λ q e. rw q (restarts-lawful h (viewAsked st) a e restartStep))
     e1
 
 -- a step that begins an operation names its client

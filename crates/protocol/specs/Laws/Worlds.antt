@@ -2,16 +2,18 @@
 use Prim.Native.Nat.{ℕ, zero, suc, _+_, _≤_, _<_}
 use native.Mathlib.Decide.{ℕ-discrete, decLt}
 use native.Mathlib.Omega.{arith}
-use mathlib.Core.Bool.{true, false}
+use mathlib.Core.Bool.{Bool, true, false, _||_}
 use mathlib.Core.Path.{_≡_, refl, sym, ap, _∙_}
 use mathlib.Core.Logic.{_≢_}
-use mathlib.Core.List.{List}
-use lib.ListN.{length, length-set}
+use mathlib.Core.List.{List, [], _∷_}
+use lib.ListN.{length, getD, set, length-set, List·getD-eq-default}
+use lib.Dec.{eqb}
+use borrow.Author.Tests.{eq-eqb, ne-eqb}
 use lib.Seq.{getD-set-same, getD-set-other, set-out}
 use Rattle.protocol.specs.Types.{Server, Client, View, Message}
-use Rattle.protocol.specs.Tools.{nth, replace}
-use Rattle.protocol.specs.Clients.{number}
-use Rattle.protocol.specs.Worlds.{World, noMessage, server, client, view, message, withServer, withClient, withView, withMessage, send}
+use Rattle.protocol.specs.Tools.{if, any, nth, replace}
+use Rattle.protocol.specs.Worlds.{World, noMessage, server, client, view, message, withServer, withClient, withView, withMessage, send, unlinked, asSent}
+unfoldable pub use Rattle.protocol.specs.Worlds.{content}
 use Rattle.protocol.specs.Steps.{link}
 
 module _ {A : Type 0} where
@@ -30,11 +32,6 @@ module _ {A : Type 0} where
   nth-other l zero v d x n = refl
   nth-other l (suc k) v d zero n = refl
   nth-other l (suc k) v d (suc x) n = getD-set-other l k x v d (λ e. n (ap suc e))
-
--- a message without what taking it changes
-unfoldable pub content : Message → Message
-content m =
-    record { kind = m .kind; sender = m .sender; view = m .view; taken = false; request = m .request; next = number 0; entry = m .entry }
 
 -- message i as it was sent
 unfoldable pub sent : World → ℕ → Message
@@ -82,6 +79,65 @@ message-send w m i h = getD-set-other (w .messageList) (w .used + 1) i m noMessa
 pub message-new : (w : World) (m : Message) → w .used + 1 < length (w .messageList) → message (send w m) (w .used + 1) ≡ m
 unfolding message send
 message-new w m h = getD-set-same (w .messageList) (w .used + 1) m noMessage h
+
+-- ---- messages as they were sent
+
+pub content-again : (m : Message) → content (content m) ≡ content m
+unfolding content
+content-again m = refl
+
+none-sent : content noMessage ≡ noMessage
+unfolding content
+none-sent = refl
+
+-- the message n of a list as it was sent, also where there is none
+sent-same : (l : List Message) (n : ℕ) → getD (set l n (content (getD l n noMessage))) n noMessage ≡ content (getD l n noMessage)
+sent-same l n = go (decLt n (length l))
+  where
+    go : Dec (n < length l) → getD (set l n (content (getD l n noMessage))) n noMessage ≡ content (getD l n noMessage)
+    go (yes h) = getD-set-same l n _ noMessage h
+    go (no h) =
+        let e : getD l n noMessage ≡ noMessage = List·getD-eq-default l noMessage (omega arith) in
+        ap (λ (x : List Message). getD x n noMessage) (set-out l n _ (omega arith)) ∙ e ∙ sym none-sent ∙ ap content (sym e)
+
+unlinked-at : (l : List Message) (ks : List ℕ) (i : ℕ) → getD (unlinked l ks) i noMessage ≡ if (any (eqb i) ks) (content (getD l i noMessage)) (getD l i noMessage)
+unfolding unlinked any
+unlinked-at l [] i = refl
+unlinked-at l (k ∷ ks) i = go (ℕ-discrete i k) (any (eqb i) ks) (unlinked-at l ks i)
+  where
+    go : Dec (i ≡ k) → (b : Bool) → getD (unlinked l ks) i noMessage ≡ if b (content (getD l i noMessage)) (getD l i noMessage)
+        → getD (set (unlinked l ks) k (content (getD (unlinked l ks) k noMessage))) i noMessage ≡ if (eqb i k || b) (content (getD l i noMessage)) (getD l i noMessage)
+    go (yes q) b e =
+        rw (eq-eqb i k q)
+        (ap (λ (n : ℕ). getD (set (unlinked l ks) k (content (getD (unlinked l ks) k noMessage))) n noMessage) q ∙ sent-same (unlinked l ks) k
+        ∙ ap (λ (n : ℕ). content (getD (unlinked l ks) n noMessage)) (sym q) ∙ ap content e ∙ either b)
+      where
+        either : (b : Bool) → content (if b (content (getD l i noMessage)) (getD l i noMessage)) ≡ content (getD l i noMessage)
+        either true = content-again _
+        either false = refl
+    go (no q) b e = rw (ne-eqb i k q) (getD-set-other (unlinked l ks) k i _ noMessage q ∙ e)
+
+-- message i of the world in which the messages ks are as they were sent
+pub message-as : (w : World) (ks : List ℕ) (i : ℕ) → message (asSent w ks) i ≡ if (any (eqb i) ks) (sent w i) (message w i)
+unfolding message asSent sent
+message-as w ks i = unlinked-at (w .messageList) ks i
+
+pub sent-as : (w : World) (ks : List ℕ) (i : ℕ) → sent (asSent w ks) i ≡ sent w i
+unfolding sent
+sent-as w ks i = ap content (message-as w ks i) ∙ go (any (eqb i) ks)
+  where
+    go : (b : Bool) → content (if b (content (message w i)) (message w i)) ≡ content (message w i)
+    go true = content-again _
+    go false = refl
+
+count-unlinked : (l : List Message) (ks : List ℕ) → length (unlinked l ks) ≡ length l
+unfolding unlinked
+count-unlinked l [] = refl
+count-unlinked l (k ∷ ks) = length-set (unlinked l ks) k _ ∙ count-unlinked l ks
+
+pub count-as : (w : World) (ks : List ℕ) → length (asSent w ks .messageList) ≡ length (w .messageList)
+unfolding asSent
+count-as w ks = count-unlinked (w .messageList) ks
 
 -- ---- servers and clients
 

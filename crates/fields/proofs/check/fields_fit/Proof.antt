@@ -18,11 +18,17 @@ places-fit-requires c κs = search needs
 numbers-fit-requires : tie.Need-numbers-fit-requires
 numbers-fit-requires c κs = search needs
 
+restart-fits-requires : tie.Need-restart-fits-requires
+restart-fits-requires c κs = search needs
+
 both-requires : tie.Need-both-requires
 both-requires c κs = search needs
 
+both-requires-2 : tie.Need-both-requires-2
+both-requires-2 c κs = search needs
+
 returns-3 : tie.Need-returns-3
-returns-3 c = search (known-row, needs) depth 7 fits 4000
+returns-3 c = search (known-row, needs) depth 8 fits 8000
 
 pub fields-fit-spec : {M : Type 1} → statement M
 fields-fit-spec =
@@ -33,5 +39,7 @@ fields-fit-spec =
     row-of-requires
     places-fit-requires
     numbers-fit-requires
+    restart-fits-requires
     both-requires
+    both-requires-2
     returns-3)

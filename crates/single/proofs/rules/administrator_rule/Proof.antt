@@ -1,43 +1,22 @@
 use borrow.Author.Tests.{eq-eqb, ne-eqb}
-use Rattle.protocol.specs.Tools.{guard}
-use Rattle.single.specs.Rules.{administratorRule}
 use borrow.Author.Needs.{needs}
+use Rattle.single.specs.Rules.{administratorRule}
 use Rattle.single.proofs.rules.administrator_rule.Statement.{statement}
 use Rattle.single.proofs.rules.administrator_rule.Tie as tie
 
-call-rule-requires : tie.Need-call-rule-requires
-call-rule-requires c κs = search needs
+restarting-rule-requires : tie.Need-restarting-rule-requires
+restarting-rule-requires c κs = search needs
 
 returns : tie.Need-returns
-unfolding administratorRule guard
-returns c = rw (eq-eqb _ _ (c .before .if1 .taken)) (c .call-rule .ensures)
+unfolding administratorRule
+returns c = rw (eq-eqb _ _ (c .before .if1 .taken)) (c .restarting-rule .ensures)
+
+calling-rule-requires : tie.Need-calling-rule-requires
+calling-rule-requires c κs = search needs
 
 returns-2 : tie.Need-returns-2
-unfolding administratorRule guard
-returns-2 c = rw (ne-eqb _ _ (c .before .if1 .left), ne-eqb _ _ (c .if2 .taken))
-
-returns-3 : tie.Need-returns-3
-unfolding administratorRule guard
-returns-3 c = rw (ne-eqb _ _ (c .before .before .before .if1 .left), eq-eqb _ _ (c .before .before .if2 .left), ne-eqb _ _ (c .if3 .taken))
-
-returns-4 : tie.Need-returns-4
-unfolding administratorRule guard
-returns-4 c = rw (ne-eqb _ _ (c .before .before .before .before .before .before .if1 .left), eq-eqb _ _ (c .before .before .before .before .before .if2 .left), eq-eqb _ _ (c .before .before .before .if3 .left), ne-eqb _ _ (c .if4 .taken))
-
-returns-5 : tie.Need-returns-5
-unfolding administratorRule guard
-returns-5 c = rw (ne-eqb _ _ (c .before .before .before .before .before .before .before .before .if1 .left), eq-eqb _ _ (c .before .before .before .before .before .before .before .if2 .left), eq-eqb _ _ (c .before .before .before .before .before .if3 .left), eq-eqb _ _ (c .before .before .if4 .left), ne-eqb _ _ (c .if5 .taken))
-
-returns-6 : tie.Need-returns-6
-unfolding administratorRule guard
-returns-6 c = rw (ne-eqb _ _ (c .before .before .before .before .before .before .before .before .before .before .if1 .left), eq-eqb _ _ (c .before .before .before .before .before .before .before .before .before .if2 .left), eq-eqb _ _ (c .before .before .before .before .before .before .before .if3 .left), eq-eqb _ _ (c .before .before .before .before .if4 .left), eq-eqb _ _ (c .before .before .if5 .left), ne-eqb _ _ (c .if6 .taken))
-
-advance-rule-requires : tie.Need-advance-rule-requires
-advance-rule-requires c κs = search needs
-
-returns-7 : tie.Need-returns-7
-unfolding administratorRule guard
-returns-7 c = rw (ne-eqb _ _ (c .before .before .before .before .before .before .before .before .before .before .before .if1 .left), eq-eqb _ _ (c .before .before .before .before .before .before .before .before .before .before .if2 .left), eq-eqb _ _ (c .before .before .before .before .before .before .before .before .if3 .left), eq-eqb _ _ (c .before .before .before .before .before .if4 .left), eq-eqb _ _ (c .before .before .before .if5 .left), eq-eqb _ _ (c .before .if6 .left)) (c .advance-rule .ensures)
+unfolding administratorRule
+returns-2 c = rw (ne-eqb _ _ (c .before .if1 .left)) (c .calling-rule .ensures)
 
 pub administrator-rule-spec : {M : Type 1} → statement M
-administrator-rule-spec = tie.close (tie.spec call-rule-requires returns returns-2 returns-3 returns-4 returns-5 returns-6 advance-rule-requires returns-7)
+administrator-rule-spec = tie.close (tie.spec restarting-rule-requires returns calling-rule-requires returns-2)

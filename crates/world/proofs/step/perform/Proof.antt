@@ -1,9 +1,9 @@
-use mathlib.Core.Path.{refl}
+use mathlib.Core.Path.{refl, sym, ap, _∙_}
 use Rattle.codec.specs.Images.{decode}
-use Rattle.protocol.specs.Steps.{rowOf}
+use Rattle.protocol.specs.Steps.{rowOf, newView, restarts}
 use Rattle.protocol.specs.Laws.Kinds.{client-of as who-client, server-of as who-server, source-of, kind-last}
 use Rattle.world.specs.Stored.{by}
-use Rattle.world.specs.Performs.{as-write, as-read, as-deliver, as-take, as-fault, as-false, as-view, as-give-up}
+use Rattle.world.specs.Performs.{as-write, as-read, as-deliver, as-take, as-fault, as-false, as-view, as-give-up, as-restart}
 use borrow.Author.Needs.{needs}
 use Rattle.world.proofs.step.perform.Statement.{statement}
 use Rattle.world.proofs.step.perform.Tie as tie
@@ -31,16 +31,21 @@ false-answer-requires : tie.Need-false-answer-requires
 unfolding rowOf
 false-answer-requires c κs = let d = c .before .before .before .before .before .before in let i = who-server (d .args .st) 6 (d .pre .1) (c .before .match .keys6) refl refl in (d .pre .0, i .low, i .high, source-of (d .args .st) (d .pre .1))
 
+view-asked-requires : tie.Need-view-asked-requires
+view-asked-requires c κs = search needs
+
 new-view-requires : tie.Need-new-view-requires
 new-view-requires c κs = search needs
 
 gives-up-requires : tie.Need-gives-up-requires
 unfolding rowOf
-gives-up-requires c κs =
-    let d = c .before .before .before .before .before .before in
-    let r = c .before .match .rest in
-    let i = who-client (d .args .st) 8 (d .pre .1) (kind-last (d .args .st) (d .pre .1) (r .0 .0 .0 .0 .0 .0 .1) (r .0 .0 .0 .0 .0 .1) (r .0 .0 .0 .0 .1) (r .0 .0 .0 .1) (r .0 .0 .1) (r .0 .1) (r .1)) refl in
-    (d .pre .0, i .low, i .high)
+gives-up-requires c κs = let d = c .before .before .before .before .before .before in let i = who-client (d .args .st) 8 (d .pre .1) (c .before .match .keys8) refl in (d .pre .0, i .low, i .high)
+
+view-asked-requires-2 : tie.Need-view-asked-requires-2
+view-asked-requires-2 c κs = search needs
+
+restarts-requires : tie.Need-restarts-requires
+restarts-requires c κs = search needs
 
 same-length : tie.Need-same-length
 same-length c = search needs
@@ -83,8 +88,9 @@ same-length-7 c = search needs
 
 returns-7 : tie.Need-returns-7
 returns-7 c =
-    let d = c .before .before .before .before .before .before .before .before .before in
-    by (as-view (decode (d .args .image .now)) (d .args .st) (c .before .before .before .before .match .keys7)) (c .before .before .new-view .ensures)
+    let a = c .before .before .before in
+    let d = a .before .before .before .before .before .before .before in
+    by (as-view (decode (d .args .image .now)) (d .args .st) (a .before .before .match .keys7) ∙ ap (newView (decode (d .args .image .now))) (sym (a .view-asked .ensures))) (c .before .before .new-view .ensures)
 
 same-length-8 : tie.Need-same-length-8
 same-length-8 c = search needs
@@ -92,9 +98,19 @@ same-length-8 c = search needs
 returns-8 : tie.Need-returns-8
 returns-8 c =
     let d = c .before .before .before .before .before .before .before .before .before in
-    let r = c .before .before .before .before .match .rest in
-    by (as-give-up (decode (d .args .image .now)) (d .args .st) (kind-last (d .args .st) (d .pre .1) (r .0 .0 .0 .0 .0 .0 .1) (r .0 .0 .0 .0 .0 .1) (r .0 .0 .0 .0 .1) (r .0 .0 .0 .1) (r .0 .0 .1) (r .0 .1) (r .1)))
-    (c .before .before .gives-up .ensures)
+    by (as-give-up (decode (d .args .image .now)) (d .args .st) (c .before .before .before .before .match .keys8)) (c .before .before .gives-up .ensures)
+
+same-length-9 : tie.Need-same-length-9
+same-length-9 c = search needs
+
+returns-9 : tie.Need-returns-9
+returns-9 c =
+    let a = c .before .before .before in
+    let d = a .before .before .before .before .before .before .before in
+    let r = a .before .before .match .rest in
+    let k = kind-last (d .args .st) (d .pre .1) (r .0 .0 .0 .0 .0 .0 .0 .1) (r .0 .0 .0 .0 .0 .0 .1) (r .0 .0 .0 .0 .0 .1) (r .0 .0 .0 .0 .1) (r .0 .0 .0 .1) (r .0 .0 .1) (r .0 .1) (r .1) in
+    by (as-restart (decode (d .args .image .now)) (d .args .st) k ∙ ap (restarts (decode (d .args .image .now))) (sym (a .view-asked2 .ensures)))
+    (c .before .before .restarts .ensures)
 
 pub perform-spec : {M : Type 1} → statement M
 perform-spec =
@@ -106,8 +122,11 @@ perform-spec =
     take-requires
     fault-requires
     false-answer-requires
+    view-asked-requires
     new-view-requires
     gives-up-requires
+    view-asked-requires-2
+    restarts-requires
     same-length
     returns
     same-length-2
@@ -123,4 +142,6 @@ perform-spec =
     same-length-7
     returns-7
     same-length-8
-    returns-8)
+    returns-8
+    same-length-9
+    returns-9)
