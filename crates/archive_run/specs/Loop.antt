@@ -9,9 +9,9 @@ use Rattle.protocol.specs.Steps.{After}
 use Rattle.protocol.specs.Runs.{stepOf}
 use Rattle.preservation.specs.Kept.{step-kept}
 use Rattle.codec.specs.Images.{encode, decode}
-use Rattle.image.specs.Readable.{world-decode}
+use Rattle.readable.specs.Readable.{world-decode}
 use Rattle.image.specs.Steps.{stepOn, leftBy}
-use Rattle.world.specs.Images.{Legible}
+use Rattle.mail.specs.Images.{Legible}
 use Rattle.journal.specs.Replays.{spelled}
 use Rattle.archive_run.specs.declared.Onward.{Onward}
 use Rattle.archive_run.specs.declared.Onward.the-variants.{More, Stop}

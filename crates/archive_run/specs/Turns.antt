@@ -22,11 +22,11 @@ use Rattle.codec.specs.Places.{clientAt}
 use Rattle.codec.specs.Images.{encode, decode}
 use Rattle.image.specs.Fresh.{Outcome, outcome, freshOn}
 use Rattle.image.specs.Steps.{stepOn, leftBy}
-use Rattle.world.specs.declared.Stepped.{Stepped}
-use Rattle.world.specs.declared.Stepped.the-variants.{StepRefused, StepDone}
+use Rattle.mail.specs.declared.Stepped.{Stepped}
+use Rattle.mail.specs.declared.Stepped.the-variants.{StepRefused, StepDone}
 use Rattle.preservation.specs.Begun.{fresh-kept}
-use Rattle.image.specs.Readable.{readable, world-readable}
-use Rattle.world.specs.Images.{stepped, Legible, Does}
+use Rattle.readable.specs.Readable.{readable, world-readable}
+use Rattle.mail.specs.Images.{stepped, Legible, Does}
 use Rattle.journal.specs.Replays.{spelled}
 use Rattle.lines.specs.Lines.{operationLine}
 use Rattle.archive_run.specs.declared.turns.Moved.{Moved}

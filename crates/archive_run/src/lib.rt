@@ -1,7 +1,7 @@
 // The program: standard input to lines.
 pub mod turns;
 
-ghost use Rattle.world.specs.Images.{Legible};
+ghost use Rattle.mail.specs.Images.{Legible};
 ghost use Rattle.archive_run.specs.Loop.{Led, Stops, Says};
 use codec::layout::IMAGE;
 use codec::layout::STEP;

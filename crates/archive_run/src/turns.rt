@@ -5,7 +5,7 @@ ghost use lib.ListN.{length};
 ghost use Rattle.codec.specs.Layout.{imageSize};
 ghost use Rattle.codec.specs.Lists.{put};
 ghost use Rattle.image.specs.Steps.{stepOn, leftBy};
-ghost use Rattle.world.specs.Images.{Legible};
+ghost use Rattle.mail.specs.Images.{Legible};
 ghost use Rattle.lines.specs.Lines.{lineWidth};
 ghost use Rattle.archive_run.specs.Turns.{firstFits, firstOn, lineOn, turned, measured, lineAfter};
 use codec::layout::STEP;
@@ -13,9 +13,9 @@ use codec::places::load_client;
 use codec::records::read_step;
 use image::fresh::fresh;
 use lines::operation_line;
+use mail::Stepped;
 use protocol::Step;
 use protocol::limits::CLIENTS;
-use world::Stepped;
 use world::step::advance;
 
 // A stop by its refusal, or the length of the line that a step leaves, 0 for none.

@@ -9,7 +9,6 @@ use protocol::Server;
 use protocol::ViewNumber;
 use protocol::limits::MESSAGES;
 use protocol::limits::VIEWS;
-use values::records;
 ghost use mathlib.Core.Path.{_≡_};
 ghost use Rattle.checked.specs.Ranges.{numberFits, serverInRange, messageInRange, clientInRange, endFits, endingInRange, administratorInRange};
 

@@ -1,8 +1,5 @@
 // What a host calls: each rule of one machine, 3 for a record out of range, then as its step.
 use super::ranges;
-use machines::administrator;
-use machines::clients;
-use machines::servers;
 use protocol::Administrator;
 use protocol::Begun;
 use protocol::Called;
@@ -27,7 +24,6 @@ use protocol::refusals::NO_MESSAGE;
 use protocol::refusals::NOT_APPLICABLE;
 use protocol::refusals::UNFIT;
 use values::entries;
-use values::records;
 ghost use mathlib.Core.Path.{_≡_};
 ghost use Rattle.protocol.specs.Tools.{numberOf};
 ghost use Rattle.protocol.specs.Servers.{served};
@@ -46,7 +42,7 @@ pub fn serve_rule(a: Server, m: Message, member: bool) -> Served
     if !message_ok {
         return Served::ServeRefused(UNFIT);
     }
-    servers::serve(a, m, member)
+    server_rules::serve(a, m, member)
 }
 
 // Whether a faulty server may answer a request with view t, by number: 3, 5, 6, 9.
@@ -65,7 +61,7 @@ pub fn false_answer_rule(a: Server, t: ViewNumber, m: Message, source: bool) -> 
     if !view_ok {
         return UNFIT;
     }
-    servers::may_answer(a, t, m, source)
+    server_rules::may_answer(a, t, m, source)
 }
 
 // A client begins a write of a value with its READ, number n: 3, 4.
@@ -80,7 +76,7 @@ pub fn write_rule(c: Client, value: u32, n: MessageNumber) -> Begun
     if !number_ok {
         return Begun::BeginRefused(UNFIT);
     }
-    clients::begin(c, WRITES, value, n)
+    client_rules::begin(c, WRITES, value, n)
 }
 
 // A client begins a read with its READ, number n: 3, 4.
@@ -95,7 +91,7 @@ pub fn read_rule(c: Client, n: MessageNumber) -> Begun
     if !number_ok {
         return Begun::BeginRefused(UNFIT);
     }
-    clients::begin(c, READS, 0, n)
+    client_rules::begin(c, READS, 0, n)
 }
 
 // A client gives its operation up: 3, 12.
@@ -104,9 +100,9 @@ pub fn give_up_rule(c: Client) -> GivenUp
 {
     let client_ok = ranges::client_in_range(c);
     if !client_ok {
-        return GivenUp::GiveUpRefused(3);
+        return GivenUp::GiveUpRefused(UNFIT);
     }
-    clients::give_up(c)
+    client_rules::give_up(c)
 }
 
 // Whether a message is an answer that may be taken, by number, r being the request that waits, or 0: 3; 5, not an answer; 7, taken
@@ -154,7 +150,7 @@ fn next_fits(c: Client, one: bool, n: MessageNumber) -> bool
     if !reading {
         return true;
     }
-    let ends = clients::once(c, one);
+    let ends = client_rules::once(c, one);
     if ends {
         return true;
     }
@@ -184,7 +180,7 @@ pub fn close_rule(c: Client, who: u8, e: Entry, one: bool, n: MessageNumber) -> 
     if !number_ok {
         return Closing::CloseRefused(UNFIT);
     }
-    clients::close(c, who, e, one, n)
+    client_rules::close(c, who, e, one, n)
 }
 
 // The administrator calls a new view with END of the newest, number n: 3, 4, 8.
@@ -199,7 +195,7 @@ pub fn call_rule(a: Administrator, v: View, n: MessageNumber) -> Called
     if !number_ok {
         return Called::CallRefused(UNFIT);
     }
-    administrator::call(a, v, n)
+    administrator_rules::call(a, v, n)
 }
 
 // Without member bits a restart names neither f nor a read size.
@@ -228,7 +224,7 @@ pub fn restart_rule(a: Administrator, v: View) -> Called
     if !view_ok {
         return Called::CallRefused(UNFIT);
     }
-    administrator::restart(a, v)
+    administrator_rules::restart(a, v)
 }
 
 // END closes, and the called view becomes the newest: 3, 7, not ending.
@@ -240,9 +236,9 @@ pub fn advance_rule(a: Administrator) -> Called
     if !administrator_ok {
         return Called::CallRefused(UNFIT);
     }
-    let busy = administrator::is_ending(ending);
+    let busy = administrator_rules::is_ending(ending);
     if !busy {
         return Called::CallRefused(NOT_APPLICABLE);
     }
-    administrator::advance(a)
+    administrator_rules::advance(a)
 }

@@ -15,7 +15,7 @@ use Rattle.protocol.specs.Runs.{stepWidth, stepBytes, Replayed, onward, replay}
 use Rattle.protocol.specs.Runs as W
 use Rattle.codec.specs.Layout.{imageSize}
 use Rattle.codec.specs.Images.{encode, decode}
-use Rattle.image.specs.Readable.{readable, read}
+use Rattle.readable.specs.Readable.{readable, read}
 use Rattle.image.specs.Steps.{stepsOf, unplayed, replayOn, resumeOn}
 use Rattle.image.specs.Worlds.{spells-readable, exactly-one}
 use Rattle.journal.specs.Replays.{whole-replay}

@@ -12,7 +12,7 @@ use Rattle.protocol.specs.Worlds.{World, fresh}
 use Rattle.protocol.specs.Steps.{After}
 use Rattle.protocol.specs.Laws.Refusals.{among-ranged, fresh-refuses}
 use Rattle.codec.specs.Layout.{imageSize}
-use Rattle.image.specs.Readable.{readable}
+use Rattle.readable.specs.Readable.{readable}
 use Rattle.image.specs.Fresh.{outcome, freshOn}
 use Rattle.image.specs.Steps.{stepOn, leftBy}
 use Rattle.image.specs.Worlds.{Spells, spells-readable, exactly-one}

@@ -25,7 +25,7 @@ use Rattle.protocol.specs.Laws.Refusals.{step-refuses, fresh-refuses, serve-ref
 use Rattle.protocol.specs.Laws.Refusals.{call-refuses, restart-refuses, replay-refuses, replay-all}
 use Rattle.codec.specs.Layout.{imageSize}
 use Rattle.codec.specs.Images.{decode}
-use Rattle.image.specs.Readable.{readable}
+use Rattle.readable.specs.Readable.{readable}
 use Rattle.image.specs.Fresh.{outcome, freshOn}
 use Rattle.image.specs.Premise.{premiseOn}
 use Rattle.image.specs.Steps.{stepOn, stepsOf, played, unplayed, replayOn, resumeOn}

@@ -15,7 +15,7 @@ use Rattle.protocol.specs.Entries.{countOf, writerOf}
 use Rattle.protocol.specs.Clients.{WRITES}
 use Rattle.protocol.specs.Consistent.{Operation, In, Consistent}
 use Rattle.codec.specs.Images.{decode}
-use Rattle.image.specs.Readable.{read}
+use Rattle.readable.specs.Readable.{read}
 use Rattle.image.specs.Fresh.{freshOn}
 use Rattle.image.specs.Premise.{premiseOn}
 use Rattle.image.specs.Steps.{replayOn}

@@ -28,6 +28,7 @@ use journal::watch::watch;
 use judging::Judgement;
 use judging::judge::judge;
 use loads::journal::load;
+use mail::Stepped;
 use protocol::Called;
 use protocol::Closing;
 use protocol::Served;
@@ -42,7 +43,6 @@ use values::sizes::QuorumSize;
 use values::sizes::quorum_size;
 use vouch::call::vouch;
 use vouch::call::vouch_threshold;
-use world::Stepped;
 use world::step::step;
 
 // "Fresh world (member bits, f)", and r: refusal.

@@ -25,7 +25,7 @@ use Rattle.codec.specs.Records.{headerBytes, administratorBytes, viewBytes, hol
 use Rattle.codec.specs.Places.{putView, putServer, putAdministrator}
 use Rattle.codec.specs.Images.{holders, holderList, imageWith, encode}
 use Rattle.codec.specs.Laws.{Full, put-view-with, put-server, full-view, full-server}
-use Rattle.image.specs.Holders.{holders-none}
+use Rattle.key_holders.specs.Holders.{holders-none}
 
 -- an answer's number and the image that a call leaves
 pub record Outcome : Type 0 where

@@ -1,14 +1,3 @@
-pub mod Tests
-pub mod Counts
-pub mod Holders
-pub mod Links
-pub mod Formed
-pub mod Chains
-pub mod Readable
-pub mod Scan
-pub mod Beyond
-pub mod Loops
-pub mod Walks
 pub mod Fresh
 pub mod Premise
 pub mod Steps

@@ -22,9 +22,9 @@ use Rattle.codec.specs.Laws.{view-decode}
 use Rattle.codec.specs.Whole.{plain-image}
 use Rattle.image.specs.declared.premise.Report.{Report}
 use Rattle.image.specs.declared.premise.Report.the-variants.{Refused, Holds, Fails}
-use Rattle.image.specs.Tests.{as-one}
-use Rattle.image.specs.Holders.{holders-count, holders-beyond}
-use Rattle.image.specs.Readable.{readable, read}
+use Rattle.readable.specs.Tests.{as-one}
+use Rattle.key_holders.specs.Holders.{holders-count, holders-beyond}
+use Rattle.readable.specs.Readable.{readable, read}
 
 -- no more than f(t) faulty servers hold key t, by the byte that counts them
 unfoldable pub within : List ℕ → ℕ → Bool

@@ -11,7 +11,7 @@ use Rattle.protocol.specs.Steps.{After, step}
 use Rattle.protocol.specs.Runs.{stepWidth, stepOf, Replayed, replay}
 use Rattle.codec.specs.Layout.{imageSize}
 use Rattle.codec.specs.Images.{encode, decode}
-use Rattle.image.specs.Readable.{readable}
+use Rattle.readable.specs.Readable.{readable}
 
 -- "Any step: 1, image or step of wrong length; 2, unreadable; 3 ... Then by kind"
 unfoldable pub stepOn : List ℕ → List ℕ → Result After

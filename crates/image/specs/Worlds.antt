@@ -14,7 +14,7 @@ use Rattle.protocol.specs.Readable.{wellFormed}
 use Rattle.protocol.specs.Runs.{stepBytes}
 use Rattle.codec.specs.Layout.{imageSize}
 use Rattle.codec.specs.Images.{encode, decode}
-use Rattle.image.specs.Readable.{readable, read, world-decode, world-readable}
+use Rattle.readable.specs.Readable.{readable, read, world-decode, world-readable}
 use Rattle.image.specs.Steps.{stepOn}
 
 -- the image of a readable world

@@ -1,8 +1,3 @@
-// The image of a world: whether it is readable, the fresh world, and the premise.
-pub mod beyond;
-pub mod chain;
+// The fresh world in an image, and the premise of one.
 pub mod fresh;
-mod holders;
 pub mod premise;
-pub mod readable;
-mod sent;

@@ -17,13 +17,13 @@ use Rattle.protocol.specs.Steps.{After, step}
 use Rattle.protocol.specs.Runs.{stepWidth, stepOf, stepBytes, Replayed, onward, replay}
 use Rattle.codec.specs.Layout.{imageSize}
 use Rattle.codec.specs.Images.{encode, decode}
-use Rattle.image.specs.Readable.{readable, Read, read, world-decode, world-readable}
+use Rattle.readable.specs.Readable.{readable, Read, read, world-decode, world-readable}
 use Rattle.preservation.specs.Kept.{step-kept}
 use Rattle.image.specs.Steps.{leftBy, answered, stepsIn, stepsOf, Played, played, replayOn, resumeOn}
 use Rattle.journal.specs.declared.Replayed.{Replayed as Answer}
-use Rattle.world.specs.declared.Stepped.{Stepped}
-use Rattle.world.specs.declared.Stepped.the-variants.{StepRefused, StepDone}
-use Rattle.world.specs.Images.{Legible, Does, stepped}
+use Rattle.mail.specs.declared.Stepped.{Stepped}
+use Rattle.mail.specs.declared.Stepped.the-variants.{StepRefused, StepDone}
+use Rattle.mail.specs.Images.{Legible, Does, stepped}
 
 -- the function answered r and left the image l, as p
 pub record Plays (r : Answer) (l : List ℕ) (p : Played) : Type 0 where

@@ -15,7 +15,7 @@ use Rattle.protocol.specs.Steps.{After}
 use Rattle.protocol.specs.Runs.{stepWidth, stepBytes, left, Replayed, onward, replay}
 use Rattle.codec.specs.Layout.{imageSize}
 use Rattle.codec.specs.Images.{encode, decode}
-use Rattle.image.specs.Readable.{readable, Read, read, world-decode, world-readable}
+use Rattle.readable.specs.Readable.{readable, Read, read, world-decode, world-readable}
 use Rattle.preservation.specs.Begun.{left-kept}
 use Rattle.image.specs.Steps.{stepsIn, stepsOf, played, unplayed, replayOn, resumeOn}
 use Rattle.journal.specs.Replays.{beyond, rest-stops, whole-replay, rest-some}

@@ -12,7 +12,7 @@ use Rattle.protocol.specs.Steps.{After}
 use Rattle.protocol.specs.Runs.{stepWidth, stepBytes}
 use Rattle.codec.specs.Layout.{imageSize}
 use Rattle.codec.specs.Images.{decode}
-use Rattle.image.specs.Readable.{readable}
+use Rattle.readable.specs.Readable.{readable}
 use Rattle.image.specs.Steps.{stepsOf, Played, replayOn}
 
 -- "the first accepted step after which the premise does not hold, or 0": n steps were done before these, and led to w

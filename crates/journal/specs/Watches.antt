@@ -14,12 +14,12 @@ use Rattle.protocol.specs.Steps.{After, step}
 use Rattle.protocol.specs.Runs.{stepWidth, stepOf, stepBytes, replay}
 use Rattle.codec.specs.Layout.{imageSize}
 use Rattle.codec.specs.Images.{decode}
-use Rattle.image.specs.Readable.{readable, read-back, world-decode}
+use Rattle.readable.specs.Readable.{readable, read-back, world-decode}
 use Rattle.image.specs.Steps.{leftBy, answered, stepsOf, played}
 use Rattle.preservation.specs.Kept.{step-kept}
-use Rattle.world.specs.declared.Stepped.{Stepped}
-use Rattle.world.specs.declared.Stepped.the-variants.{StepRefused, StepDone}
-use Rattle.world.specs.Images.{Legible, Does, stepped}
+use Rattle.mail.specs.declared.Stepped.{Stepped}
+use Rattle.mail.specs.declared.Stepped.the-variants.{StepRefused, StepDone}
+use Rattle.mail.specs.Images.{Legible, Does, stepped}
 use Rattle.journal.specs.declared.Watched.{Watched as Answer}
 use Rattle.journal.specs.Replays.{Plays, Going, part, steps-on, whole-step, steps-none, going-start, going-on, going-stop, going-end, wrong-image, wrong-journal, unreadable, whole-replay}
 use Rattle.journal.specs.Watch.{brokenBy, brokenFrom, Watched, watchOn}

@@ -6,13 +6,13 @@ ghost use Rattle.protocol.specs.Steps.{step as stepOf};
 ghost use Rattle.protocol.specs.Runs.{stepWidth, stepOf as stepIn, replay as replayOf};
 ghost use Rattle.codec.specs.Images.{decode};
 ghost use Rattle.image.specs.Steps.{played, stepsOf, replayOn, resumeOn};
-ghost use Rattle.world.specs.Images.{Legible, Does};
+ghost use Rattle.mail.specs.Images.{Legible, Does};
 ghost use Rattle.journal.specs.Replays.{Plays};
 use super::Replayed;
 use codec::layout::IMAGE;
 use codec::layout::STEP;
-use image::readable::readable;
-use world::Stepped;
+use readable::readable::readable;
+use mail::Stepped;
 use world::step::advance;
 
 // The first step of a journal's part.

@@ -6,7 +6,7 @@ ghost use lib.ListN.{length};
 ghost use Rattle.protocol.specs.Runs.{stepWidth, replay as replayOf};
 ghost use Rattle.codec.specs.Images.{decode};
 ghost use Rattle.image.specs.Steps.{played, stepsOf};
-ghost use Rattle.world.specs.Images.{Legible};
+ghost use Rattle.mail.specs.Images.{Legible};
 ghost use Rattle.journal.specs.Watch.{brokenFrom, watchOn};
 ghost use Rattle.journal.specs.Watches.{Watches, noticed};
 use super::Watched;
@@ -14,8 +14,8 @@ use super::replay::first;
 use codec::layout::IMAGE;
 use codec::layout::STEP;
 use image::premise::premise_holds;
-use image::readable::readable;
-use world::Stepped;
+use readable::readable::readable;
+use mail::Stepped;
 
 // The step named so far; or, where there is none, step n if the premise does not hold after it.
 fn notice(image: &[u8], named: usize, n: usize) -> usize

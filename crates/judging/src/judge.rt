@@ -12,13 +12,9 @@ use super::passes::in_order;
 use super::sort::sort;
 use codec::bytes::clear;
 use codec::bytes::put16;
+use protocol::refusals::MALFORMED;
+use protocol::refusals::NO_ORDER;
 use protocol::refusals::WRONG_LENGTH;
-
-// "13, no order exists"
-const NO_ORDER: u8 = 13;
-
-// "14, malformed"
-const MALFORMED: u8 = 14;
 
 // An order is 2 bytes a log line.
 pub const PLACE: usize = 2;

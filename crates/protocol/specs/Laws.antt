@@ -1,5 +1,6 @@
 -- The laws of the definitions: callers use these and not the definitions' text.
 pub mod Tests
+pub mod Loops
 pub mod Formed
 pub mod Bits
 pub mod Sizes

@@ -34,3 +34,15 @@ pub const NO_COUNT: u8 = 11;
 
 // "12, the client is idle"
 pub const IDLE: u8 = 12;
+
+// "13, no order exists"
+pub const NO_ORDER: u8 = 13;
+
+// "14, malformed", of a log and of answers without a signature
+pub const MALFORMED: u8 = 14;
+
+// "15, the replay stops on no refusal"
+pub const NO_REFUSAL: u8 = 15;
+
+// "16, no entry qualifies"
+pub const UNVOUCHED: u8 = 16;

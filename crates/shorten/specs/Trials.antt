@@ -18,9 +18,9 @@ use Rattle.protocol.specs.Runs.{stepWidth, Replayed, replay}
 use Rattle.preservation.specs.Begun.{fresh-kept}
 use Rattle.codec.specs.Layout.{imageSize}
 use Rattle.codec.specs.Images.{encode, decode}
-use Rattle.image.specs.Readable.{world-decode}
+use Rattle.readable.specs.Readable.{world-decode}
 use Rattle.image.specs.Steps.{stepsIn, stepsOf, played}
-use Rattle.world.specs.Images.{Legible}
+use Rattle.mail.specs.Images.{Legible}
 use Rattle.journal.specs.declared.Replayed.{Replayed as Answer}
 use Rattle.journal.specs.Replays.{Plays, spelled}
 use Rattle.journal.specs.Rests.{replay-kept, length-steps, steps-count}

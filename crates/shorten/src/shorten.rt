@@ -21,6 +21,8 @@ use image::fresh::fresh;
 use journal::replay::play;
 use protocol::ServerSet;
 use protocol::View;
+use protocol::refusals::NO_REFUSAL;
+use protocol::refusals::WRONG_LENGTH;
 
 // "at most 512 steps"
 const MOST_STEPS: usize = 512;
@@ -131,7 +133,7 @@ fn reduce(image: &mut [u8], v: View, journal: &[u8], shorter: &mut [u8]) -> Shor
     let refusal = whole.refusal;
     if refusal == 0 {
         start(image, v);
-        return Shortened::ShortenRefused(15);
+        return Shortened::ShortenRefused(NO_REFUSAL);
     }
     put_bytes(shorter, 0, journal);
     let steps = passes(image, v, shorter, journal.len() / STEP, refusal);
@@ -167,7 +169,7 @@ pub fn shorten(
     ensures { λ x. ⌜ Shortens x (now (image .exit)) (now (shorter .exit)) (shortenOn (now (image .entry)) members f r (now (journal .entry)) (now (shorter .entry))) ⌝ }
 {
     if !lent_well(image, journal, shorter) {
-        return Shortened::ShortenRefused(1);
+        return Shortened::ShortenRefused(WRONG_LENGTH);
     }
     let n = fresh(image, members, f, r);
     if n != 0 {

@@ -6,18 +6,14 @@ use super::choice::Choice;
 use super::choice::best;
 use codec::layout::ENTRY;
 use codec::records::write_entry;
+use protocol::refusals::MALFORMED;
+use protocol::refusals::UNVOUCHED;
 use protocol::refusals::WRONG_LENGTH;
 ghost use mathlib.Core.Path.{_≡_};
 ghost use lib.ListN.{length};
 ghost use Rattle.codec.specs.Layout.{entryWidth};
 ghost use Rattle.vouch.specs.Choices.{choiceOf};
 ghost use Rattle.vouch.specs.Checks.{lengthsFit, qualified, vouchOn, thresholdOn, Leaves};
-
-// "14, malformed"
-const MALFORMED: u8 = 14;
-
-// "16, no entry qualifies"
-const NOT_VOUCHED: u8 = 16;
 
 // Answers of 16 bytes each, and room for an entry.
 fn lengths_fit(answers: &[u8], room: &[u8]) -> bool
@@ -35,7 +31,7 @@ fn write_choice(room: &mut [u8], chosen: Choice) -> u8
     ensures { λ r. ⌜ Leaves r (now (room .exit)) (now (room .entry)) (qualified (choiceOf chosen)) ⌝ }
 {
     let Choice::Best(e) = chosen else {
-        return NOT_VOUCHED;
+        return UNVOUCHED;
     };
     write_entry(room, 0, e);
     0

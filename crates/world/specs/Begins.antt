@@ -18,9 +18,9 @@ use Rattle.protocol.specs.Worlds.{World, client, withClient, send, nextNumber}
 use Rattle.protocol.specs.Steps.{request, begins, givesUp}
 use Rattle.codec.specs.Places.{usedAt, clientAt, putClient}
 use Rattle.codec.specs.Images.{decode}
-use Rattle.world.specs.declared.Stepped.the-variants.{StepRefused, StepDone}
-use Rattle.world.specs.Images.{Legible, Does, putSent}
-use Rattle.world.specs.Stored.{refuses, does, used-is, client-is, image-of, with-client, with-sent, room-yes, room-no}
+use Rattle.mail.specs.declared.Stepped.the-variants.{StepRefused, StepDone}
+use Rattle.mail.specs.Images.{Legible, Does, putSent}
+use Rattle.mail.specs.Stored.{refuses, does, used-is, client-is, image-of, with-client, with-sent, room-yes, room-no}
 
 kept-used : (w : World) (c : ℕ) (x : Client) (u : ℕ) → u ≡ w .used → u + 1 ≡ withClient w c x .used + 1
 unfolding withClient

@@ -1,11 +1,2 @@
-pub mod Images
-pub mod Stored
-pub mod Holders
 pub mod Begins
-pub mod Delivers
-pub mod Puts
-pub mod Views
-pub mod Takes
-pub mod Gathered
-pub mod Restarts
 pub mod Performs

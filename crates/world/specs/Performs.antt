@@ -14,11 +14,11 @@ use Rattle.protocol.specs.Steps.{begins, deliver, take, fault, lie, newView, gi
 use Rattle.protocol.specs.Runs.{stepWidth, stepOf}
 use Rattle.codec.specs.Layout.{imageSize}
 use Rattle.codec.specs.Images.{decode}
-use Rattle.image.specs.Readable.{readable, read}
+use Rattle.readable.specs.Readable.{readable, read}
 use Rattle.image.specs.Steps.{stepOn}
-use Rattle.world.specs.declared.Stepped.the-variants.{StepRefused}
-use Rattle.world.specs.Images.{Legible, Does}
-use Rattle.world.specs.Stored.{refuses}
+use Rattle.mail.specs.declared.Stepped.the-variants.{StepRefused}
+use Rattle.mail.specs.Images.{Legible, Does}
+use Rattle.mail.specs.Stored.{refuses}
 
 -- the kinds of steps
 module _ (w : World) (st : Step) where

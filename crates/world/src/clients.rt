@@ -3,15 +3,15 @@ ghost use Prim.Native.Nat.{_≤_};
 ghost use Rattle.protocol.specs.Sizes.{clients};
 ghost use Rattle.protocol.specs.Steps.{begins as beginsOn, givesUp};
 ghost use Rattle.codec.specs.Images.{decode};
-ghost use Rattle.world.specs.Images.{Legible, Does};
-use super::Stepped;
-use super::mail::request;
-use super::mail::send;
+ghost use Rattle.mail.specs.Images.{Legible, Does};
+use client_rules::begin;
+use client_rules::give_up;
 use codec::places::load_client;
 use codec::places::load_used;
 use codec::places::store_client;
-use machines::clients::begin;
-use machines::clients::give_up;
+use mail::Stepped;
+use mail::request;
+use mail::send;
 use protocol::Begun;
 use protocol::GivenUp;
 use protocol::MessageNumber;
@@ -19,6 +19,7 @@ use protocol::StampCount;
 use protocol::ViewNumber;
 use protocol::kinds::READ;
 use protocol::limits::MESSAGES;
+use protocol::refusals::NO_NUMBER;
 use values::entries::entry_of;
 
 // "Write, read: 4, client not idle; 10"
@@ -34,7 +35,7 @@ pub fn begins(image: &mut [u8], c: u8, kind: u8, value: u32) -> Stepped
         Begun::BeginRefused(x) => Stepped::StepRefused(x),
         Begun::Began(next) => {
             if MESSAGES <= used {
-                return Stepped::StepRefused(10);
+                return Stepped::StepRefused(NO_NUMBER);
             }
             let read = request(READ, c, ViewNumber(0), entry_of(StampCount(0), 0, 0));
             store_client(image, c, next);

@@ -6,27 +6,30 @@ ghost use Rattle.protocol.specs.Steps.{fieldsFit, perform as performOn, step as
 ghost use Rattle.protocol.specs.Runs.{stepWidth, stepOf as stepIn};
 ghost use Rattle.codec.specs.Images.{decode};
 ghost use Rattle.image.specs.Steps.{stepOn};
-ghost use Rattle.world.specs.Images.{Legible, Does};
-use super::Stepped;
+ghost use Rattle.mail.specs.Images.{Legible, Does};
 use super::clients::begins;
 use super::clients::gives_up;
-use super::restarts::restarts;
-use super::servers::deliver;
-use super::servers::false_answer;
-use super::servers::fault;
-use super::take::take;
-use super::views::new_view;
 use codec::layout::IMAGE;
 use codec::layout::STEP;
 use codec::records::read_step;
+use deliveries::servers::deliver;
+use deliveries::servers::false_answer;
+use deliveries::servers::fault;
 use fields::check::fields_fit;
-use image::readable::readable;
+use readable::readable::readable;
+use mail::Stepped;
 use protocol::ServerNumber;
 use protocol::ServerSet;
 use protocol::Step;
 use protocol::View;
 use protocol::kinds::READS;
 use protocol::kinds::WRITES;
+use protocol::refusals::UNFIT;
+use protocol::refusals::UNREADABLE;
+use protocol::refusals::WRONG_LENGTH;
+use takes::take::take;
+use view_changes::restarts::restarts;
+use view_changes::views::new_view;
 
 // "new view: f, value (member bits)", and the read size "in its who"; likewise a restart.
 fn view_asked(st: Step) -> View
@@ -70,7 +73,7 @@ pub fn advance(image: &mut [u8], bytes: &[u8]) -> Stepped
     let st = read_step(bytes);
     let fits = fields_fit(st);
     if !fits {
-        return Stepped::StepRefused(3);
+        return Stepped::StepRefused(UNFIT);
     }
     perform(image, st)
 }
@@ -80,14 +83,14 @@ pub fn step(image: &mut [u8], bytes: &[u8]) -> Stepped
     ensures { λ r. ⌜ Does r (now (image .entry)) (now (image .exit)) (stepOn (now (image .entry)) (now (bytes .entry))) ⌝ }
 {
     if image.len() != IMAGE {
-        return Stepped::StepRefused(1);
+        return Stepped::StepRefused(WRONG_LENGTH);
     }
     if bytes.len() != STEP {
-        return Stepped::StepRefused(1);
+        return Stepped::StepRefused(WRONG_LENGTH);
     }
     let legible = readable(image);
     if !legible {
-        return Stepped::StepRefused(2);
+        return Stepped::StepRefused(UNREADABLE);
     }
     advance(image, bytes)
 }

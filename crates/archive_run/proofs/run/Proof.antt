@@ -1,5 +1,5 @@
 use mathlib.Core.Path.{sym, subst, _∙_}
-use Rattle.world.specs.Images.{Legible}
+use Rattle.mail.specs.Images.{Legible}
 use Rattle.archive_run.specs.Turns.{first-legible}
 use borrow.Author.Needs.{needs}
 use Rattle.archive_run.proofs.run.Statement.{statement}

@@ -1,6 +1,6 @@
 use mathlib.Core.Path.{sym, ap, _∙_}
-use Rattle.world.specs.declared.Stepped.{Stepped}
-use Rattle.world.specs.Images.{stepped}
+use Rattle.mail.specs.declared.Stepped.{Stepped}
+use Rattle.mail.specs.Images.{stepped}
 use Rattle.exports.specs.Answers.{packed}
 use borrow.Author.Needs.{needs}
 use Rattle.exports.proofs.zw_step.Statement.{statement}

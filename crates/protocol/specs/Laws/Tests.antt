@@ -2,7 +2,7 @@
 use Prim.Native.Nat.{ℕ, zero, suc, _≤_, _<_}
 use native.Mathlib.Nat.{eq-or-lt-of-le, le-refl}
 use native.Mathlib.Omega.{arith}
-use mathlib.Core.Bool.{Bool, true, false, _&&_, _||_, true≢false}
+use mathlib.Core.Bool.{Bool, true, false, not, _&&_, _||_, true≢false}
 use mathlib.Core.Path.{_≡_, refl, sym, _∙_}
 use mathlib.Core.Logic.{_⊎_, inl, inr}
 use mathlib.Core.List.{List, [], _∷_}
@@ -37,6 +37,21 @@ or-cases false y e = inr e
 -- a test that passed and failed
 pub clash : {A : Type 0} {b : Bool} → b ≡ true → b ≡ false → A
 clash p q = absurd (true≢false (sym p ∙ q))
+
+-- what a test of the code tells of the one defined: b is its answer
+pub passed-test : (b c : Bool) → b ≡ c → not b ≡ false → c ≡ true
+passed-test true c p q = sym p
+passed-test false c p q = absurd (true≢false q)
+
+pub failed-test : (b c : Bool) → b ≡ c → not b ≡ true → c ≡ false
+failed-test true c p q = absurd (true≢false (sym q))
+failed-test false c p q = sym p
+
+pub is-true : (b c : Bool) → b ≡ c → b ≡ true → c ≡ true
+is-true b c p q = sym p ∙ q
+
+pub is-false : (b c : Bool) → b ≡ c → b ≡ false → c ≡ false
+is-false b c p q = sym p ∙ q
 
 -- by cases on a test, with what it tells
 pub by-test : {P : Type 0} (b : Bool) → (b ≡ true → P) → (b ≡ false → P) → P

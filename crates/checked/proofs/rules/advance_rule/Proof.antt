@@ -4,7 +4,7 @@ use borrow.Author.Needs.{needs}
 use borrow.Author.Tests.{not-true, not-false}
 use Rattle.protocol.specs.Tools.{guard}
 use Rattle.protocol.specs.Clients.{isEnding}
-use Rattle.machines.specs.Clients.{advance-in}
+use Rattle.administrator_rules.specs.Advances.{advance-in}
 use Rattle.checked.specs.Ranges.{administratorInRange, ending-newest}
 use Rattle.checked.specs.Rules.{advanceRule}
 use Rattle.checked.proofs.rules.advance_rule.Statement.{statement}

@@ -3,7 +3,7 @@ use mathlib.Core.Path.{_≡_, sym, _∙_}
 use borrow.Author.Needs.{needs}
 use borrow.Author.Tests.{not-true, not-false}
 use Rattle.protocol.specs.Tools.{guard}
-use Rattle.machines.specs.Servers.{serveIn, serve-in}
+use Rattle.server_rules.specs.Servers.{serveIn, serve-in}
 use Rattle.checked.specs.Ranges.{messageInRange, message-view}
 use Rattle.checked.specs.Rules.{serveRule}
 use Rattle.checked.proofs.rules.serve_rule.Statement.{statement}

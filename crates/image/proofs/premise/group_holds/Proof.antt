@@ -5,7 +5,7 @@ use native.Mathlib.Omega.{arith}
 use borrow.Author.Tests.{not-true, not-false}
 use borrow.Author.Needs.{needs}
 use Rattle.protocol.specs.Tools.{allTo}
-use Rattle.image.specs.Loops.{all-start, all-more, all-fails}
+use Rattle.protocol.specs.Laws.Loops.{all-start, all-more, all-fails}
 use Rattle.image.specs.Premise.{within, group, none-held}
 use Rattle.image.proofs.premise.group_holds.Statement.{statement}
 use Rattle.image.proofs.premise.group_holds.Tie as tie

@@ -6,8 +6,8 @@ use borrow.Author.Tests.{not-true, not-false}
 use borrow.Author.Needs.{needs}
 use Rattle.protocol.specs.Tools.{allTo}
 use Rattle.protocol.specs.Sizes.{views}
-use Rattle.image.specs.Loops.{all-start}
-use Rattle.image.specs.Readable.{read}
+use Rattle.protocol.specs.Laws.Loops.{all-start}
+use Rattle.readable.specs.Readable.{read}
 use Rattle.image.specs.Premise.{within, group, group-more, group-fails, premise-bytes}
 use Rattle.image.proofs.premise.premise_holds.Statement.{statement}
 use Rattle.image.proofs.premise.premise_holds.Tie as tie

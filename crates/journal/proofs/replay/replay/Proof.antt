@@ -1,6 +1,6 @@
 use mathlib.Core.Path.{sym, subst, _∙_}
 use borrow.Author.Tests.{not-true, not-false}
-use Rattle.image.specs.Readable.{read}
+use Rattle.readable.specs.Readable.{read}
 use Rattle.image.specs.Steps.{Played}
 use Rattle.journal.specs.Replays.{Plays, legible, wrong-image, wrong-journal, unreadable, whole-replay}
 use borrow.Author.Needs.{needs}

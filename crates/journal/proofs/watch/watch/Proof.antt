@@ -1,6 +1,6 @@
 use mathlib.Core.Path.{sym, subst, _∙_}
 use borrow.Author.Tests.{not-true, not-false}
-use Rattle.image.specs.Readable.{read}
+use Rattle.readable.specs.Readable.{read}
 use Rattle.journal.specs.Replays.{legible}
 use Rattle.journal.specs.Watch.{Watched}
 use Rattle.journal.specs.Watches.{Watches, unwatched-image, unwatched-journal, unwatched, whole-watch}

@@ -6,8 +6,8 @@ use lib.ListN.{length}
 use Rattle.protocol.specs.declared.Message.{Message}
 use Rattle.protocol.specs.Servers.{READ}
 use Rattle.protocol.specs.Steps.{request}
-use Rattle.world.specs.Images.{putSent}
-use Rattle.world.specs.Stored.{used-low, size-client}
+use Rattle.mail.specs.Images.{putSent}
+use Rattle.mail.specs.Stored.{used-low, size-client}
 use Rattle.world.specs.Begins.{begins-no, begins-full, begins-done}
 use borrow.Author.Needs.{needs}
 use Rattle.world.proofs.clients.begins.Statement.{statement}

@@ -2,7 +2,7 @@ use mathlib.Core.Path.{sym, ap, _∙_}
 use borrow.Author.Tests.{not-true, not-false}
 use Rattle.protocol.specs.Steps.{step}
 use Rattle.codec.specs.Images.{decode}
-use Rattle.world.specs.Stored.{by}
+use Rattle.mail.specs.Stored.{by}
 use Rattle.world.specs.Performs.{unfit, fit}
 use borrow.Author.Needs.{needs}
 use Rattle.world.proofs.step.advance.Statement.{statement}

@@ -2,7 +2,7 @@ use mathlib.Core.Path.{refl, sym, ap, _∙_}
 use Rattle.codec.specs.Images.{decode}
 use Rattle.protocol.specs.Steps.{rowOf, newView, restarts}
 use Rattle.protocol.specs.Laws.Kinds.{client-of as who-client, server-of as who-server, source-of, kind-last}
-use Rattle.world.specs.Stored.{by}
+use Rattle.mail.specs.Stored.{by}
 use Rattle.world.specs.Performs.{as-write, as-read, as-deliver, as-take, as-fault, as-false, as-view, as-give-up, as-restart}
 use borrow.Author.Needs.{needs}
 use Rattle.world.proofs.step.perform.Statement.{statement}

@@ -1,6 +1,6 @@
 use mathlib.Core.Path.{sym, _∙_}
 use borrow.Author.Tests.{not-true, not-false}
-use Rattle.world.specs.Stored.{by}
+use Rattle.mail.specs.Stored.{by}
 use Rattle.world.specs.Performs.{legible, wrong-image, wrong-step, unreadable, whole-step}
 use borrow.Author.Needs.{needs}
 use Rattle.world.proofs.step.step.Statement.{statement}

@@ -1,0 +1,25 @@
+use mathlib.Core.Path.{sym, _∙_}
+use borrow.Author.Tests.{not-true, not-false}
+use borrow.Author.Needs.{needs}
+use Rattle.protocol.specs.Tools.{pass}
+use Rattle.records.proofs.reading_fits.Statement.{statement}
+use Rattle.records.proofs.reading_fits.Tie as tie
+
+kind-fits-requires : tie.Need-kind-fits-requires
+kind-fits-requires c κs = search needs
+
+returns : tie.Need-returns
+returns c = rw (sym (c .before .kind-fits .ensures) ∙ not-true _ (c .if1 .taken))
+
+returns-2 : tie.Need-returns-2
+returns-2 c = pass (sym (c .before .before .kind-fits .ensures) ∙ not-false _ (c .before .if1 .left)) (rw (not-true (c .before .before .before .args .sent) (c .if2 .taken)))
+
+asking-fits-requires : tie.Need-asking-fits-requires
+asking-fits-requires c κs = search needs
+
+returns-3 : tie.Need-returns-3
+returns-3 c = pass (sym (c .before .before .before .kind-fits .ensures) ∙ not-false _ (c .before .before .if1 .left)) (pass (not-false (c .before .before .before .before .args .sent) (c .before .if2 .left)) (c .asking-fits .ensures))
+
+pub reading-fits-spec : {M : Type 1} → statement M
+reading-fits-spec =
+    tie.close (tie.spec kind-fits-requires returns returns-2 asking-fits-requires returns-3)
