@@ -28,12 +28,16 @@ extern "C" {
 #define ZW_SERVER_CALL 24      /* bytes of what is asked of a server */
 #define ZW_CLIENT_CALL 17      /* bytes of what is asked of a client */
 #define ZW_ADMINISTRATOR_CALL 12 /* bytes of what is asked of the administrator */
+#define ZW_MESSAGE 20          /* bytes of a message's record */
+#define ZW_VIEW 8              /* bytes of a view's record */
+#define ZW_PHASE 644           /* bytes of the record of a phase */
+#define ZW_ANSWER_CALL 28      /* bytes of what zw_answer takes: an answer, a message, and its view */
 #define ZW_SHORTEN_STEPS 512   /* steps of a journal that is shortened, at most */
 #define ZW_LOG_LINE 20         /* bytes of a line of a log that is judged */
 #define ZW_LOG_LINES 256       /* lines of a log that is judged, at most */
 #define ZW_ORDER_LINE 2        /* bytes of a line's number in an order */
 #define ZW_ENTRY 12            /* bytes of an entry */
-#define ZW_ANSWER 16           /* bytes of an answer without a signature */
+#define ZW_UNSIGNED_ANSWER 16  /* bytes of an answer without a signature, for zw_vouch */
 
 /* Refusals. */
 enum zw_refusal {
@@ -44,7 +48,7 @@ enum zw_refusal {
     ZW_BUSY = 4,        /* client not idle; the newest view is being ended */
     ZW_NO_MESSAGE = 5,  /* no such message, or of the wrong kind */
     ZW_FAULTY = 6,      /* the server is faulty, or is not */
-    ZW_NO_RULE = 7,     /* the rule does not apply; nothing is being ended */
+    ZW_NO_RULE = 7,     /* the rule does not apply; the answer is taken or not to what is open; nothing is being ended */
     ZW_SIZE = 8,        /* size rule broken, a read size outside its bounds, or no view is left */
     ZW_NO_KEY = 9,      /* the server lacks that key */
     ZW_FULL = 10,       /* all message numbers are used */
@@ -54,6 +58,22 @@ enum zw_refusal {
     ZW_MALFORMED = 14,  /* a log or a list of answers that breaks its rules */
     ZW_NO_REFUSAL = 15, /* the replay stops on no refusal */
     ZW_UNVOUCHED = 16   /* no entry qualifies */
+};
+
+/* Kinds of messages. */
+enum zw_kind {
+    ZW_KIND_READ = 1,
+    ZW_KIND_WRITE = 2,
+    ZW_KIND_END = 3,
+    ZW_KIND_START = 4,
+    ZW_KIND_ANSWER = 5
+};
+
+/* What an answer did to the phase that it was given to: results of zw_answer. */
+enum zw_answered {
+    ZW_OPEN = 0,          /* it is open */
+    ZW_CLOSED = 1,        /* it is closed */
+    ZW_CLOSED_AT_ONCE = 2 /* it is closed, and a read may end without its WRITE */
 };
 
 static inline unsigned zw_refusal_of(uint64_t answer) { return (unsigned)(answer & 255); }
@@ -159,6 +179,31 @@ uint64_t zw_client(uint8_t *client, size_t n, const uint8_t *call, size_t m);
  * or with zeros to leave it as it is; 3, no members but f or r; 7, nothing is
  * being ended; 8). A restart leaves the record as it is. Result 0. */
 uint64_t zw_administrator(uint8_t *administrator, size_t n, const uint8_t *call, size_t m);
+
+/* The answers to one request, for a client's phase or the administrator's END:
+ * a lent record of 644 bytes has the answers taken so far, however many they
+ * are. Give it every answer that arrives and whose signature fits its tag and
+ * its sender; it counts servers, each view apart. */
+
+/* Opens the record: `kind` is that of the request (ZW_KIND_READ, ZW_KIND_WRITE
+ * or ZW_KIND_END), `view` the number of the view that END ends, 1 to 31, and 0
+ * for the others, `request` the request's number, 1 to 1,023. All bytes are
+ * written. Result 0. Refusals 1, 3. */
+uint64_t zw_open(uint8_t *phase, size_t n, uint8_t kind, uint8_t view, uint16_t request);
+
+/* One answer: `call` is its message (ZW_MESSAGE bytes; `taken` and `next` are 0)
+ * and the record of the view that it is tagged with (ZW_VIEW bytes: members, f,
+ * r). Result ZW_OPEN: the phase is open. ZW_CLOSED: it is closed, and `entry`, 12
+ * bytes, is written. ZW_CLOSED_AT_ONCE: as that, and a read may end here without
+ * its WRITE. After 2 the last byte of what is asked of the client by rule 4 is 1,
+ * after 1 it is 0: zw_at_once_of. Closed, the record has nothing open, and a later
+ * answer is refused with 7. `entry` is written only when closed. Refusals 1; 3; 5,
+ * not an answer; 7, marked as taken or of another request; 8, the view breaks the
+ * size rule. */
+uint64_t zw_answer(uint8_t *phase, size_t n, const uint8_t *call, size_t m,
+                   uint8_t *entry, size_t k);
+
+static inline unsigned zw_at_once_of(uint64_t answer) { return zw_result_of(answer) == ZW_CLOSED_AT_ONCE; }
 
 #ifdef __cplusplus
 }

@@ -5,7 +5,7 @@ use std::env;
 use std::path::PathBuf;
 
 /// The library's name, without the `lib` and `.a` of its file.
-const LIBRARY: &str = "exports";
+const LIBRARY: &str = "zemawulo";
 
 fn main() {
     println!("cargo:rerun-if-env-changed=ZEMAWULO_LIB");

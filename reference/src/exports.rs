@@ -46,6 +46,15 @@ extern "C" {
     fn zw_server(server: *mut u8, n: usize, call: *const u8, m: usize) -> u64;
     fn zw_client(client: *mut u8, n: usize, call: *const u8, m: usize) -> u64;
     fn zw_administrator(record: *mut u8, n: usize, call: *const u8, m: usize) -> u64;
+    fn zw_open(phase: *mut u8, n: usize, kind: u8, view: u8, request: u16) -> u64;
+    fn zw_answer(
+        phase: *mut u8,
+        n: usize,
+        call: *const u8,
+        m: usize,
+        entry: *mut u8,
+        k: usize,
+    ) -> u64;
 }
 
 /// A function that writes to one buffer and reads another.
@@ -167,5 +176,17 @@ impl Library for Exports {
 
     fn administrator(&self, record: &mut [u8], asked: &[u8]) -> u64 {
         with_two(zw_administrator, record, asked)
+    }
+
+    fn open(&self, phase: &mut [u8], kind: u8, view: u8, request: u16) -> u64 {
+        // SAFETY: the pointer and length are those of a slice lent for writing.
+        unsafe { zw_open(phase.as_mut_ptr(), phase.len(), kind, view, request) }
+    }
+
+    fn answer(&self, phase: &mut [u8], given: &[u8], entry: &mut [u8]) -> u64 {
+        let (lent, n) = (phase.as_mut_ptr(), phase.len());
+        let (written, k) = (entry.as_mut_ptr(), entry.len());
+        // SAFETY: all are pointer and length of slices, and they do not overlap.
+        unsafe { zw_answer(lent, n, given.as_ptr(), given.len(), written, k) }
     }
 }

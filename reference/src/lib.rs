@@ -14,6 +14,7 @@ pub mod entry;
 pub mod layout;
 pub mod load;
 pub mod operations;
+pub mod phase;
 pub mod premise;
 pub mod program;
 pub mod quorum;

@@ -21,7 +21,7 @@ use crate::world::{
 };
 
 /// Refused with this reason unless it holds.
-fn ask(holds: bool, reason: Reason) -> Result<(), Reason> {
+pub(crate) fn ask(holds: bool, reason: Reason) -> Result<(), Reason> {
     if holds {
         Ok(())
     } else {
@@ -47,7 +47,7 @@ fn is_view(view: u8) -> bool {
     (1..=LAST_VIEW).contains(&view)
 }
 
-fn entry_fits(entry: &Entry) -> bool {
+pub(crate) fn entry_fits(entry: &Entry) -> bool {
     entry.writer <= LAST_CLIENT && entry.spare == [0; 3]
 }
 
@@ -192,7 +192,7 @@ fn server_fits(server: &Server) -> bool {
         && entry_fits(&server.entry)
 }
 
-fn message_fits(message: &Message) -> bool {
+pub(crate) fn message_fits(message: &Message) -> bool {
     let answer = message.kind == message_kind::ANSWER;
     let viewless = matches!(message.kind, message_kind::READ | message_kind::WRITE);
     let empty = matches!(message.kind, message_kind::READ | message_kind::END);

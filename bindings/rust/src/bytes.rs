@@ -27,6 +27,10 @@ pub const SERVER_CALL: usize = 24;
 pub const CLIENT_CALL: usize = 17;
 /// Bytes of what is asked of the administrator.
 pub const ADMINISTRATOR_CALL: usize = 12;
+/// Bytes of the record of a phase.
+pub const PHASE: usize = 644;
+/// Bytes of an answer with the view that it is tagged with.
+pub const ANSWER_CALL: usize = MESSAGE + VIEW;
 /// Bytes of a line of a log.
 pub const LOG_LINE: usize = 20;
 /// Bytes of a line's number in an order.
@@ -34,7 +38,7 @@ pub const ORDER_LINE: usize = 2;
 /// Bytes of an entry.
 pub const ENTRY: usize = 12;
 /// Bytes of an answer without a signature.
-pub const ANSWER: usize = 16;
+pub const UNSIGNED_ANSWER: usize = 16;
 /// The lines of a log that is judged, at most.
 pub const LOG_LINES: usize = 256;
 /// The steps of a journal that is shortened, at most.
@@ -194,4 +198,17 @@ pub fn client(client: &mut [u8], call: &[u8]) -> Result<bool, Refusal> {
 /// The administrator's rule on its record.
 pub fn administrator(administrator: &mut [u8], call: &[u8]) -> Result<(), Refusal> {
     result(raw::administrator(administrator, call)).map(|_| ())
+}
+
+/// Opens the record of a phase: the kind of its request (1 READ, 2 WRITE, 3 END),
+/// the view that END ends, 0 for the others, and the request's number.
+pub fn open(phase: &mut [u8], kind: u8, view: u8, request: u16) -> Result<(), Refusal> {
+    result(raw::open(phase, kind, view, request)).map(|_| ())
+}
+
+/// One answer given to a phase, as its message and the view that it is tagged
+/// with. 0: the phase is open. 1: it is closed, and `entry` is written. 2: as 1,
+/// and a read may end without its WRITE.
+pub fn answer(phase: &mut [u8], call: &[u8], entry: &mut [u8]) -> Result<u64, Refusal> {
+    result(raw::answer(phase, call, entry))
 }

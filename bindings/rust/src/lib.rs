@@ -29,6 +29,7 @@
 #![deny(missing_docs)]
 #![warn(clippy::all)]
 
+pub mod answers;
 pub mod bytes;
 mod entry;
 mod image;
@@ -43,7 +44,7 @@ mod step;
 pub use bytes::{quorum, Replayed, Sizes};
 pub use entry::Entry;
 pub use image::{load, shorten, Image, LAST_CLIENT, LAST_MESSAGE, LAST_SERVER, LAST_VIEW};
-pub use lists::{judge, vouch, vouch_threshold, Answer, LogLine};
+pub use lists::{judge, vouch, vouch_threshold, LogLine, UnsignedAnswer};
 pub use numbers::Numbers;
 pub use records::{Client, Kind, Message, MessageKind, Phase, Server, View};
 pub use refusal::Refusal;

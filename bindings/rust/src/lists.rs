@@ -1,6 +1,6 @@
 //! Logs from elsewhere, and answers without a signature.
 
-use crate::bytes::{self, ANSWER, ENTRY, LOG_LINE, ORDER_LINE};
+use crate::bytes::{self, ENTRY, LOG_LINE, ORDER_LINE, UNSIGNED_ANSWER};
 use crate::numbers::{record, u16_at, u8_at};
 use crate::records::Kind;
 use crate::{Entry, Refusal};
@@ -75,31 +75,31 @@ pub fn judge(log: &[LogLine]) -> Result<Vec<u16>, Refusal> {
 /// An answer without a signature: a server and the entry that it shows.
 ///
 /// ```
-/// use zemawulo::{vouch, Answer, Entry, Refusal};
+/// use zemawulo::{vouch, UnsignedAnswer, Entry, Refusal};
 ///
 /// let written = Entry::new(3, 2, 7);
-/// let mut answers = vec![Answer::new(5, Entry::new(9, 9, 9))];
-/// answers.extend((1..=3).map(|server| Answer::new(server, written)));
+/// let mut answers = vec![UnsignedAnswer::new(5, Entry::new(9, 9, 9))];
+/// answers.extend((1..=3).map(|server| UnsignedAnswer::new(server, written)));
 /// // One of five servers lies.
 /// assert_eq!(vouch(&answers, 5, 1), Ok(written));
 /// assert_eq!(vouch(&answers[1..], 5, 1), Err(Refusal::Malformed));
 /// ```
 #[derive(Clone, Copy, Debug, PartialEq, Eq, Hash)]
-pub struct Answer([u8; ANSWER]);
+pub struct UnsignedAnswer([u8; UNSIGNED_ANSWER]);
 
-impl Answer {
+impl UnsignedAnswer {
     /// The answer of a server.
-    pub fn new(server: u8, entry: Entry) -> Answer {
-        Answer(record(&[&[server, 0, 0, 0], &entry.to_bytes()]))
+    pub fn new(server: u8, entry: Entry) -> UnsignedAnswer {
+        UnsignedAnswer(record(&[&[server, 0, 0, 0], &entry.to_bytes()]))
     }
 
     /// The answer that these bytes spell.
-    pub const fn from_bytes(bytes: [u8; ANSWER]) -> Answer {
-        Answer(bytes)
+    pub const fn from_bytes(bytes: [u8; UNSIGNED_ANSWER]) -> UnsignedAnswer {
+        UnsignedAnswer(bytes)
     }
 
     /// Its bytes.
-    pub const fn to_bytes(self) -> [u8; ANSWER] {
+    pub const fn to_bytes(self) -> [u8; UNSIGNED_ANSWER] {
         self.0
     }
 
@@ -114,7 +114,7 @@ impl Answer {
     }
 }
 
-fn list(answers: &[Answer]) -> Vec<u8> {
+fn list(answers: &[UnsignedAnswer]) -> Vec<u8> {
     answers
         .iter()
         .flat_map(|answer| answer.to_bytes())
@@ -124,7 +124,7 @@ fn list(answers: &[Answer]) -> Vec<u8> {
 /// Chooses among entries without a signature: of those that at least b+1 of the n
 /// servers show, the largest stamp, for equal stamps the smaller value. Refused
 /// with 14 and 16.
-pub fn vouch(answers: &[Answer], n: u32, b: u32) -> Result<Entry, Refusal> {
+pub fn vouch(answers: &[UnsignedAnswer], n: u32, b: u32) -> Result<Entry, Refusal> {
     let mut entry = [0; ENTRY];
     bytes::vouch(&list(answers), n, b, &mut entry)?;
     Ok(Entry::from_bytes(entry))
@@ -132,7 +132,12 @@ pub fn vouch(answers: &[Answer], n: u32, b: u32) -> Result<Entry, Refusal> {
 
 /// The same for thresholds: the largest permitted b plus 1 in place of b+1, and
 /// an entry is dropped if that many servers show larger stamps.
-pub fn vouch_threshold(answers: &[Answer], n: u32, b: u32, largest: u32) -> Result<Entry, Refusal> {
+pub fn vouch_threshold(
+    answers: &[UnsignedAnswer],
+    n: u32,
+    b: u32,
+    largest: u32,
+) -> Result<Entry, Refusal> {
     let mut entry = [0; ENTRY];
     bytes::vouch_threshold(&list(answers), n, b, largest, &mut entry)?;
     Ok(Entry::from_bytes(entry))

@@ -53,6 +53,15 @@ mod c {
         pub fn zw_server(server: *mut u8, n: usize, call: *const u8, m: usize) -> u64;
         pub fn zw_client(client: *mut u8, n: usize, call: *const u8, m: usize) -> u64;
         pub fn zw_administrator(record: *mut u8, n: usize, call: *const u8, m: usize) -> u64;
+        pub fn zw_open(phase: *mut u8, n: usize, kind: u8, view: u8, request: u16) -> u64;
+        pub fn zw_answer(
+            phase: *mut u8,
+            n: usize,
+            call: *const u8,
+            m: usize,
+            entry: *mut u8,
+            k: usize,
+        ) -> u64;
     }
 }
 
@@ -154,4 +163,16 @@ pub fn client(client: &mut [u8], call: &[u8]) -> u64 {
 
 pub fn administrator(administrator: &mut [u8], call: &[u8]) -> u64 {
     on(c::zw_administrator, administrator, call)
+}
+
+pub fn open(phase: &mut [u8], kind: u8, view: u8, request: u16) -> u64 {
+    // SAFETY: the pointer and length are those of a slice lent for writing.
+    unsafe { c::zw_open(phase.as_mut_ptr(), phase.len(), kind, view, request) }
+}
+
+pub fn answer(phase: &mut [u8], call: &[u8], entry: &mut [u8]) -> u64 {
+    let (lent, n) = (phase.as_mut_ptr(), phase.len());
+    let (written, k) = (entry.as_mut_ptr(), entry.len());
+    // SAFETY: all three are pointer and length of slices, which do not overlap.
+    unsafe { c::zw_answer(lent, n, call.as_ptr(), call.len(), written, k) }
 }

@@ -281,6 +281,22 @@ impl Message {
         Message::new(MessageKind::Start, 0, view, entry)
     }
 
+    /// The answer of a server to the request of this number, tagged with a view.
+    pub fn answer(server: u8, view: u8, request: u16, entry: Entry) -> Message {
+        let [low, high] = request.to_le_bytes();
+        let head = [
+            MessageKind::Answer.number(),
+            server,
+            view,
+            0,
+            low,
+            high,
+            0,
+            0,
+        ];
+        Message(record(&[&head, &entry.to_bytes()]))
+    }
+
     /// The message that these bytes spell.
     pub const fn from_bytes(bytes: [u8; MESSAGE]) -> Message {
         Message(bytes)

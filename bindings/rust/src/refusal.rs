@@ -15,7 +15,7 @@ use std::fmt;
 /// assert_eq!(refusal.number(), 8);
 /// assert_eq!(
 ///     refusal.to_string(),
-///     "refusal 8: the size rule is broken (1 to 32 servers, at least 3f+1; r is 0 or from 2f+1 to half of n+f+1), or view 32 is the newest"
+///     "refusal 8: the size rule is broken (1 to 32 servers, at least 3f+1; r is 0 or 2f+1 to half of n+f+1), or view 32 is the newest"
 /// );
 /// ```
 #[derive(Clone, Copy, Debug, PartialEq, Eq, Hash)]
@@ -84,7 +84,7 @@ const NAMED: [(Refusal, &str); 16] = [
     ),
     (
         Refusal::Size,
-        "the size rule is broken (1 to 32 servers, at least 3f+1; r is 0 or from 2f+1 to half of n+f+1), or view 32 is the newest",
+        "the size rule is broken (1 to 32 servers, at least 3f+1; r is 0 or 2f+1 to half of n+f+1), or view 32 is the newest",
     ),
     (Refusal::NoKey, "the server does not hold the key of that view"),
     (Refusal::Full, "all 1,023 message numbers are used"),

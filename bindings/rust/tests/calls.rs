@@ -2,8 +2,8 @@
 //! signature through the safe functions.
 
 use zemawulo::bytes::{
-    fresh, judge, load, replay, shorten, vouch, vouch_threshold, watch, ANSWER, ENTRY, IMAGE,
-    LOG_LINE, LOG_LINES, ORDER_LINE, SHORTEN_STEPS, STEP,
+    fresh, judge, load, replay, shorten, vouch, vouch_threshold, watch, ENTRY, IMAGE, LOG_LINE,
+    LOG_LINES, ORDER_LINE, SHORTEN_STEPS, STEP, UNSIGNED_ANSWER,
 };
 use zemawulo::Refusal;
 
@@ -131,7 +131,7 @@ fn answer(server: u8, entry: [u8; ENTRY]) -> Vec<u8> {
 fn entries_without_a_signature() {
     let mut room = [9; ENTRY];
     let one = answer(1, entry(3, 2, 7));
-    assert_eq!(one.len(), ANSWER);
+    assert_eq!(one.len(), UNSIGNED_ANSWER);
     assert_eq!(vouch(&one, 1, 0, &mut room), Ok(()));
     assert_eq!(room, entry(3, 2, 7));
     // One of five servers lies, and four answers are enough.
@@ -147,7 +147,7 @@ fn entries_without_a_signature() {
     assert_eq!(vouch_threshold(&list, 5, 1, 1, &mut room), Ok(()));
     assert_eq!(room, written);
     assert_eq!(
-        vouch(&list[ANSWER..], 5, 1, &mut room),
+        vouch(&list[UNSIGNED_ANSWER..], 5, 1, &mut room),
         Err(Refusal::Malformed)
     );
     assert_eq!(vouch(&list, 4, 1, &mut room), Err(Refusal::Malformed));

@@ -79,7 +79,8 @@ module _ {w : World} (h : Trusted w) where
   meet : {t m n : ℕ} {P Q : ℕ → ℕ → Type 0} → 1 ≤ t → t ≤ newest w → size (view w t) + view w t .f + 1 ≤ m + n → Votes w t m P → Votes w t n Q → Two t P Q
   unfolding size member
   meet {t} l u z x y =
-      let r = common (x .seen) (y .seen) (holds (view w t .members .0)) (λ s. lying (server w s) t) servers (view w t .f) (λ s e. seen-member x e) (λ s e. seen-member y e) (omega (arith, x .enough, y .enough)) (few t l u) in
+      let r = common (x .seen) (y .seen) (holds (view w t .members .0)) (λ s. lying (server w s) t) servers (view w t .f) (λ s e. seen-member x e) (λ s e. seen-member y e)
+      (omega (arith, x .enough, y .enough)) (few t l u) in
       record { who = r .at; good = r .good; one = x .vote (r .at) (r .one); two = y .vote (r .at) (r .two) }
 
   sizesAt : (t : ℕ) → 1 ≤ t → t ≤ newest w → Sizes (view w t)

@@ -179,7 +179,8 @@ module _ {w v : World} (c : Change w v) where
       from k (omega arith) (rw q i) (rw q e)
 
   -- evidence stays
-  pub votes-on : {t size : ℕ} {P Q : ℕ → ℕ → Type 0} → ((s k : ℕ) → k ≤ w .used → IsAnswer (sent w k) → sent w k .sender ≡ s → sent w k .view .0 ≡ t → P s k → Q s k) → Votes w t size P → Votes v t size Q
+  pub votes-on : {t size : ℕ} {P Q : ℕ → ℕ → Type 0} → ((s k : ℕ) → k ≤ w .used → IsAnswer (sent w k) → sent w k .sender ≡ s → sent w k .view .0 ≡ t → P s k → Q s k) → Votes w t size P
+      → Votes v t size Q
   votes-on f x =
       record {
         seen = x .seen;
@@ -187,7 +188,15 @@ module _ {w v : World} (c : Change w v) where
         vote = λ s q.
             let y = x .vote s q in
             let e = c .old (y .at) (y .below) in
-            record { at = y .at; below = omega (arith, y .below, grown); is = rw e (y .is); who = rw e (y .who); tag = rw e (y .tag); fact = f s (y .at) (y .below) (y .is) (y .who) (y .tag) (y .fact) };
+            record {
+              at = y .at;
+              below = omega (arith, y .below, grown);
+              is = rw e (y .is);
+              who = rw e (y .who);
+              tag = rw e (y .tag);
+              fact = f s (y .at) (y .below) (y .is) (y .who) (y .tag)
+                  (y .fact);
+            };
       }
 
 module _ {w v : World} (c : Change w v) (n : Inv w) where

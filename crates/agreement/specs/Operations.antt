@@ -268,7 +268,9 @@ module _ {w v : World} (c : Change w v) (n : Inv w) where
         is = x .writes;
         chosen = x .entry;
         seen = read-new x (omega (arith, y .low, x .chosen .tag)) (omega (arith, y .high, x .chosen .tag));
-        origin = later-origin (omega (arith, x .chosen .below)) (origin-on (x .chosen .below) (subst (Origin w (x .chosen .at)) (x .chosen .entry) (n .shown (x .chosen .at) (x .chosen .below) (x .chosen .is))));
+        origin =
+            later-origin (omega (arith, x .chosen .below)) (origin-on (x .chosen .below)
+            (subst (Origin w (x .chosen .at)) (x .chosen .entry) (n .shown (x .chosen .at) (x .chosen .below) (x .chosen .is))));
         back = λ z. x .carries ∙ toWrite-read (client w i) i (x .entry) (t ∙ z);
         above = λ z. rw (x .carries ∙ toWrite-write (client w i) i (x .entry) (t ∙ z)) (nextCount-above (client w i) (x .entry) .0);
         own = λ z. ap writerOf (x .carries ∙ toWrite-write (client w i) i (x .entry) (t ∙ z));

@@ -132,7 +132,22 @@ pub record Reached (r : Run) : Type 0 where
 later-place : {w : World} {p : ℕ} {l : List Tracked} → Story w p l → Story w (p + 1) l
 later-place s =
     record {
-      fits = λ o i. let a = s .fits o i in record { low = a .low; kind = a .kind; read = a .read; began = omega (arith, a .began); ends = omega (arith, a .ends); spans = a .spans; wrote = a .wrote; phase = a .phase; alike = a .alike; going = a .going; given = a .given; done = a .done };
+      fits =
+          λ o i. let a = s .fits o i in record {
+            low = a .low;
+            kind = a .kind;
+            read = a .read;
+            began = omega (arith, a .began);
+            ends = omega
+                (arith, a .ends);
+            spans = a .spans;
+            wrote = a .wrote;
+            phase = a .phase;
+            alike = a .alike;
+            going = a .going;
+            given = a .given;
+            done = a .done;
+          };
       order = s .order;
       opener = s .opener;
       writer = s .writer;
@@ -152,7 +167,9 @@ newly w v place st h = go (eqb (st .kind) WRITES || eqb (st .kind) READS) refl
     go : (b : Bool) → (eqb (st .kind) WRITES || eqb (st .kind) READS) ≡ b → Newly w v place (if b (st .who) 0) (st .kind) (if b (one ∷ []) [])
     go true e =
         record {
-          fresh = λ o i. subst (Fresh w v place (st .who) (st .kind)) (only o i) (record { client = refl; low = h e; kinds = kinds (or-cases _ _ e); same = refl; begin = refl; end = refl; active = refl; read = refl; write = refl });
+          fresh =
+              λ o i. subst (Fresh w v place (st .who) (st .kind)) (only o i)
+              (record { client = refl; low = h e; kinds = kinds (or-cases _ _ e); same = refl; begin = refl; end = refl; active = refl; read = refl; write = refl });
           some = λ _. record { of = one; member = here refl; has = tt };
           order = next (λ y i. no-member i) nobody;
         }

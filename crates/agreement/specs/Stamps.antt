@@ -84,7 +84,8 @@ module _ {w : World} {place : ℕ} {l : List Tracked} (s : Story w place l) wher
       let (u, k) = entry-sent (a .of) (a .member) (ap (λ (o : Operation). o .kind) (a .is) ∙ p) (ap (λ (o : Operation). o .entry) (a .is) ∙ d) in
       let (z, h) = entry-sent (b .of) (b .member) (ap (λ (o : Operation). o .kind) (b .is) ∙ q) (ap (λ (o : Operation). o .entry) (b .is) ∙ g) in
       sym (a .is)
-      ∙ ap (operation w) (unique (a .of) (b .of) (a .member) (b .member) u z (record { count = ap countOf k ∙ v .count ∙ ap countOf (sym h); writer = ap writerOf k ∙ v .writer ∙ ap writerOf (sym h) }))
+      ∙ ap (operation w) (unique (a .of) (b .of) (a .member) (b .member) u z
+      (record { count = ap countOf k ∙ v .count ∙ ap countOf (sym h); writer = ap writerOf k ∙ v .writer ∙ ap writerOf (sym h) }))
       ∙ b .is
 
 -- "in a run its stamp is never given again": for every fresh world and every list of steps, given by any bytes

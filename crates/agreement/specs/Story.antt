@@ -115,7 +115,8 @@ module _ {w v : World} {place done starter kind : ℕ} {l new : List Tracked} (n
       go (gave-up p q i g) = absurd (q refl)
 
   -- what is known of those that began later
-  later-on : (o : Tracked) (bound : ℕ) → bound ≤ w .used → o .end < place → ((x : Tracked) → In x l → o .end < x .begin → bound < x .read) → (x : Tracked) → In x all → o .end < x .begin → bound < x .read
+  later-on : (o : Tracked) (bound : ℕ) → bound ≤ w .used → o .end < place → ((x : Tracked) → In x l → o .end < x .begin → bound < x .read) → (x : Tracked) → In x all → o .end < x .begin
+      → bound < x .read
   later-on o bound b e h x i = go (in-append (map tr l) new i)
     where
       go : In x (map tr l) ⊎ In x new → o .end < x .begin → bound < x .read
@@ -277,7 +278,9 @@ module _ {w v : World} {place done starter kind : ℕ} {l new : List Tracked} (n
               once = λ z. absurd (omega (arith, t));
               bound = v .used;
               below = le-refl _;
-              held = subst (λ (x : Entry). Held v x (v .used)) (ap (λ (q : ℕ). sent w q .entry) (sym b) ∙ sym is) (held-new c n x (omega (arith, g .below)) (ap (λ (q : ℕ). sent w q .kind) (sym b) ∙ g .is));
+              held =
+                  subst (λ (x : Entry). Held v x (v .used)) (ap (λ (q : ℕ). sent w q .entry) (sym b) ∙ sym is)
+                  (held-new c n x (omega (arith, g .below)) (ap (λ (q : ℕ). sent w q .kind) (sym b) ∙ g .is));
               later = λ x i z. absurd (none-later x i z);
             };
           })

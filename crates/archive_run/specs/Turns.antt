@@ -127,7 +127,8 @@ fresh-legible i members f r e = go (eqb (length i) imageSize) (fresh members f r
 
 pub first-legible : (i b : List ℕ) → firstOn i b .refusal ≡ 0 → Legible (firstOn i b .image)
 unfolding firstOn
-first-legible i b e = go (eqb (length b) stepWidth) (firstFits (stepOf b)) (freshOn i (stepOf b .value) (stepOf b .f) (stepOf b .who)) (fresh-legible i (stepOf b .value) (stepOf b .f) (stepOf b .who)) e
+first-legible i b e =
+    go (eqb (length b) stepWidth) (firstFits (stepOf b)) (freshOn i (stepOf b .value) (stepOf b .f) (stepOf b .who)) (fresh-legible i (stepOf b .value) (stepOf b .f) (stepOf b .who)) e
   where
     go : (p q : Bool) (x : Outcome) → (x .refusal ≡ 0 → Legible (x .image))
         → if p (if q x (record { refusal = 3; image = i })) (record { refusal = 1; image = i }) .refusal ≡ 0

@@ -75,7 +75,9 @@ fn completed(image: &[u8], c: u8, out: &mut [u8]) -> usize
 // One step on a readable image, which stays readable, and the line of the operation that it completed.
 pub fn turn(image: &mut [u8], bytes: &[u8], out: &mut [u8]) -> Moved
     requires { ⌜ Legible (now image) × (lineWidth ≤ length (now out)) ⌝ }
-    ensures { λ r. ⌜ (turned r ≡ measured (stepOn (now (image .entry)) (now (bytes .entry)))) × (now (image .exit) ≡ leftBy (now (image .entry)) (stepOn (now (image .entry)) (now (bytes .entry)))) × (now (out .exit) ≡ put (now (out .entry)) 0 (lineAfter (stepOn (now (image .entry)) (now (bytes .entry))))) ⌝ }
+    ensures { λ r. ⌜ (turned r ≡ measured (stepOn (now (image .entry)) (now (bytes .entry))))
+        × (now (image .exit) ≡ leftBy (now (image .entry)) (stepOn (now (image .entry)) (now (bytes .entry))))
+        × (now (out .exit) ≡ put (now (out .entry)) 0 (lineAfter (stepOn (now (image .entry)) (now (bytes .entry))))) ⌝ }
     ensures { λ _. ⌜ Legible (now (image .exit)) ⌝ }
 {
     if bytes.len() != STEP {

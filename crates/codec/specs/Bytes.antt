@@ -149,7 +149,12 @@ unfolding zeros part
 zeros-part b at zero h z = refl
 zeros-part b at (suc n) h z =
     let e : part b at (n + 1) ≡ replicate n 0 ++ (0 ∷ [])
-    = part-add b at n 1 ∙ rw (sym (zeros-part b at n (omega arith) (and-left (zeros b at n) (clear b (at + n)) z)), part-one b (at + n) (omega arith), eqb-true (getD b (at + n) 0) 0 (and-right (zeros b at n) (clear b (at + n)) z)) in
+    = part-add b at n 1 ∙ rw (
+      sym (zeros-part b at n (omega arith) (and-left (zeros b at n) (clear b (at + n)) z)),
+      part-one b (at + n) (omega arith),
+      eqb-true (getD b (at + n) 0) 0
+          (and-right (zeros b at n) (clear b (at + n)) z),
+    ) in
     sym (ap (part b at) (sym (add-one n)) ∙ e ∙ replicate-more n)
 
 pub zeros-back : (b : List ℕ) (at n : ℕ) → replicate n 0 ≡ part b at n → zeros b at n ≡ true

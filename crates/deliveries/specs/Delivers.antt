@@ -154,7 +154,8 @@ module _ {l : List ℕ} (h : Legible l) where
     unfolding fault guard
     fault-no f = refuses _ 6 l _ refl (rw (own, f) refl)
 
-    pub fault-done : (l′ : List ℕ) → x .faulty ≡ false → l′ ≡ putServer (raised l (x .keys .0) views) s (record { view = x .view; faulty = true; keys = x .keys; entry = x .entry }) → Does (StepDone 0) l l′ (fault w s)
+    pub fault-done : (l′ : List ℕ) → x .faulty ≡ false → l′ ≡ putServer (raised l (x .keys .0) views) s (record { view = x .view; faulty = true; keys = x .keys; entry = x .entry })
+        → Does (StepDone 0) l l′ (fault w s)
     unfolding fault guard
     fault-done l′ f d =
         does 0 (withServer w s (record { view = x .view; faulty = true; keys = x .keys; entry = x .entry })) l l′ _ (rw (own, f) refl)
@@ -163,11 +164,12 @@ module _ {l : List ℕ} (h : Legible l) where
   -- ---- an answer
 
   module _ (s n : ℕ) (a : 1 ≤ s) (b : s ≤ servers) (y : Server) (x : Shown) (u : ℕ) (q : u ≡ usedAt l) where
-    pub reply-no : 1023 ≤ u → Does (StepRefused 10) l l (answers (some x) w s n y)
+    pub reply-no : messages ≤ u → Does (StepRefused 10) l l (answers (some x) w s n y)
     unfolding guard
     reply-no f = refuses _ 10 l _ refl (rw (room-no h (omega arith)) refl)
 
-    pub reply-done : (l′ : List ℕ) → serverAt l s .faulty ≡ false → y .faulty ≡ false → u < 1023 → l′ ≡ putSent (putServer l s y) (u + 1) (answer s n x) → Does (StepDone 0) l l′ (answers (some x) w s n y)
+    pub reply-done : (l′ : List ℕ) → serverAt l s .faulty ≡ false → y .faulty ≡ false → u < messages → l′ ≡ putSent (putServer l s y) (u + 1) (answer s n x)
+        → Does (StepDone 0) l l′ (answers (some x) w s n y)
     unfolding guard
     reply-done l′ c o f d =
         let k = kept-used w s y u (q ∙ used-is h) in
@@ -264,11 +266,12 @@ module _ {l : List ℕ} (h : Legible l) where
     allowed d = may-done (server w s) t (message w n) (source? w c) (may-number ∙ d)
 
     module _ (d : k ≡ 0) (u : ℕ) (i : u ≡ usedAt l) where
-      pub lie-full : 1023 ≤ u → Does (StepRefused 10) l l (lie w s t n c)
+      pub lie-full : messages ≤ u → Does (StepRefused 10) l l (lie w s t n c)
       unfolding lie guard
       lie-full j = refuses _ 10 l _ refl (rw (e, allowed d, room-no h (omega arith)) refl)
 
-      pub lie-done : (y : Entry) (l′ : List ℕ) → u < 1023 → y ≡ if (eqb c 0) empty (message w c .entry) → l′ ≡ putSent l (u + 1) (answer s n (record { view = record { 0 = t }; entry = y })) → Does (StepDone 0) l l′ (lie w s t n c)
+      pub lie-done : (y : Entry) (l′ : List ℕ) → u < messages → y ≡ if (eqb c 0) empty (message w c .entry) → l′ ≡ putSent l (u + 1) (answer s n (record { view = record { 0 = t }; entry = y }))
+          → Does (StepDone 0) l l′ (lie w s t n c)
       unfolding lie guard
       lie-done y l′ j o v =
           let m′ = answer s n (record { view = record { 0 = t }; entry = if (eqb c 0) empty (message w c .entry) }) in

@@ -10,7 +10,6 @@ ghost use Rattle.codec.specs.Layout.{imageSize};
 ghost use Rattle.codec.specs.Images.{decode};
 ghost use Rattle.readable.specs.Readable.{readable as isReadable};
 ghost use Rattle.image.specs.Premise.{within, group, premiseOn, reported};
-use readable::readable::readable;
 use codec::bytes::get32;
 use codec::layout::HOLDER;
 use codec::layout::HOLDERS_AT;
@@ -21,6 +20,7 @@ use protocol::ViewNumber;
 use protocol::limits::VIEWS;
 use protocol::refusals::UNREADABLE;
 use protocol::refusals::WRONG_LENGTH;
+use readable::readable::readable;
 
 // A refusal, or whether no view has more faulty key holders than its threshold.
 pub enum Report {

@@ -70,7 +70,8 @@ rest-stops w (b ∷ bs) = go (stepBytes w b) refl (λ v. rest-stops v bs)
     stop : Replayed
     stop = record { world = w; steps = 0; refusal = 0 }
 
-    go : (x : Result After) → stepBytes w b ≡ x → ((v : World) → replay (replay v bs .world) (beyond (replay v bs .steps) bs) ≡ record { world = replay v bs .world; steps = 0; refusal = replay v bs .refusal })
+    go : (x : Result After) → stepBytes w b ≡ x → ((v : World) → replay (replay v bs .world) (beyond (replay v bs .steps) bs)
+        ≡ record { world = replay v bs .world; steps = 0; refusal = replay v bs .refusal })
         → replay (onward x stop (λ v. replay v bs) .world) (beyond (onward x stop (λ v. replay v bs) .steps) (b ∷ bs))
         ≡ record { world = onward x stop (λ v. replay v bs) .world; steps = 0; refusal = onward x stop (λ v. replay v bs) .refusal }
     go (refused n) e ih = replay-refused w b bs n e
@@ -152,18 +153,29 @@ module _ {l₀ j l : List ℕ} {at : ℕ} (g : Going l₀ j l at) (below : at < 
   pub whole-step : stepBytes (decode l) part ≡ step (decode l) (stepOf part)
   whole-step = step-whole (decode l) part twelve
 
-  pub going-stop : (r : Stepped) (n : ℕ) (l′ : List ℕ) → r ≡ StepRefused n → Does r l l′ (step (decode l) (stepOf part)) → Plays (record { steps = at / stepWidth; refusal = n }) l′ (played (replay (decode l₀) (stepsOf j)))
+  pub going-stop : (r : Stepped) (n : ℕ) (l′ : List ℕ) → r ≡ StepRefused n → Does r l l′ (step (decode l) (stepOf part))
+      → Plays (record { steps = at / stepWidth; refusal = n }) l′ (played (replay (decode l₀) (stepsOf j)))
   going-stop r n l′ q d = go (step (decode l) (stepOf part)) refl (ap stepped (sym q) ∙ d .answer) (d .image)
     where
-      go : (x : Result After) → step (decode l) (stepOf part) ≡ x → refused n ≡ answered x → l′ ≡ leftBy l x → Plays (record { steps = at / stepWidth; refusal = n }) l′ (played (replay (decode l₀) (stepsOf j)))
+      go : (x : Result After) → step (decode l) (stepOf part) ≡ x → refused n ≡ answered x → l′ ≡ leftBy l x
+          → Plays (record { steps = at / stepWidth; refusal = n }) l′ (played (replay (decode l₀) (stepsOf j)))
       go (done a) e r i = let z : _≡_ {A = ℕ} 0 1 = cc in absurd (omega arith)
       go (refused m) e r i =
           let same : n ≡ m = cc in
-          let all : replay (decode l₀) (stepsOf j) ≡ record { world = decode l; steps = 0 + at / stepWidth; refusal = m } = ahead ∙ ap (after (at / stepWidth)) (replay-refused (decode l) part (stepsOf (drop (at + stepWidth) j)) m (whole-step ∙ e)) in
+          let all : replay (decode l₀) (stepsOf j) ≡ record { world = decode l; steps = 0 + at / stepWidth; refusal = m } = ahead ∙ ap (after (at / stepWidth))
+          (replay-refused (decode l) part (stepsOf (drop (at + stepWidth) j)) m (whole-step ∙ e)) in
           rw all (record { steps = omega arith; refusal = same; image = i ∙ sym (g .legible .image) })
 
   pub going-on : (r : Stepped) (c : ℕ) (l′ : List ℕ) → r ≡ StepDone c → Does r l l′ (step (decode l) (stepOf part)) → Going l₀ j l′ (at + stepWidth)
-  going-on r c l′ q d = record { legible = next; whole = g .whole; even = (let e = g .even in omega arith); bound = (let e = g .even in let f = g .whole in omega arith); rest = go (step (decode l) (stepOf part)) refl (ap stepped (sym q) ∙ d .answer) (d .image) }
+  going-on r c l′ q d =
+      record {
+        legible = next;
+        whole = g .whole;
+        even = (let e = g .even in omega arith);
+        bound = (let e = g .even in let f = g .whole in omega arith);
+        rest = go
+            (step (decode l) (stepOf part)) refl (ap stepped (sym q) ∙ d .answer) (d .image);
+      }
     where
       next : Legible l′
       next = advanced r l l′ part (g .legible) twelve d
@@ -171,7 +183,8 @@ module _ {l₀ j l : List ℕ} {at : ℕ} (g : Going l₀ j l at) (below : at < 
       more : (r : Replayed) → after (at / stepWidth) (after 1 r) ≡ after ((at + stepWidth) / stepWidth) r
       more r = let e : r .steps + 1 + at / stepWidth ≡ r .steps + (at + stepWidth) / stepWidth = omega arith in λ i. record { world = r .world; steps = e i; refusal = r .refusal }
 
-      go : (x : Result After) → step (decode l) (stepOf part) ≡ x → done c ≡ answered x → l′ ≡ leftBy l x → replay (decode l₀) (stepsOf j) ≡ after ((at + stepWidth) / stepWidth) (replay (decode l′) (stepsOf (drop (at + stepWidth) j)))
+      go : (x : Result After) → step (decode l) (stepOf part) ≡ x → done c ≡ answered x → l′ ≡ leftBy l x → replay (decode l₀) (stepsOf j)
+          ≡ after ((at + stepWidth) / stepWidth) (replay (decode l′) (stepsOf (drop (at + stepWidth) j)))
       go (refused m) e r i = let z : _≡_ {A = ℕ} 0 1 = cc in absurd (omega arith)
       go (done a) e r i =
           let here : a .world ≡ decode l′ = sym (world-decode (a .world) (step-kept (decode l) (g .legible .formed) (stepOf part) a e)) ∙ ap decode (sym i) in

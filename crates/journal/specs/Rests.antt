@@ -29,7 +29,8 @@ replay-kept w (b ∷ bs) h = go (stepBytes w b) refl (left-kept w h b) (λ v. re
     stop : Replayed
     stop = record { world = w; steps = 0; refusal = 0 }
 
-    go : (x : Result After) → stepBytes w b ≡ x → wellFormed (left w (stepBytes w b)) ≡ true → ((v : World) → wellFormed v ≡ true → wellFormed (replay v bs .world) ≡ true) → wellFormed (onward x stop (λ v. replay v bs) .world) ≡ true
+    go : (x : Result After) → stepBytes w b ≡ x → wellFormed (left w (stepBytes w b)) ≡ true → ((v : World) → wellFormed v ≡ true → wellFormed (replay v bs .world) ≡ true)
+        → wellFormed (onward x stop (λ v. replay v bs) .world) ≡ true
     go (refused n) e k ih = h
     go (done a) e k ih = ih (a .world) (ap (λ (x : Result After). wellFormed (left w x)) (sym e) ∙ k)
 

@@ -11,8 +11,8 @@ ghost use Rattle.journal.specs.Replays.{Plays};
 use super::Replayed;
 use codec::layout::IMAGE;
 use codec::layout::STEP;
-use readable::readable::readable;
 use mail::Stepped;
+use readable::readable::readable;
 use world::step::advance;
 
 // The first step of a journal's part.

@@ -14,8 +14,8 @@ use super::replay::first;
 use codec::layout::IMAGE;
 use codec::layout::STEP;
 use image::premise::premise_holds;
-use readable::readable::readable;
 use mail::Stepped;
+use readable::readable::readable;
 
 // The step named so far; or, where there is none, step n if the premise does not hold after it.
 fn notice(image: &[u8], named: usize, n: usize) -> usize
@@ -34,7 +34,8 @@ fn notice(image: &[u8], named: usize, n: usize) -> usize
 // "beside a stop too": on a readable image, a journal of whole steps.
 fn observe(image: &mut [u8], journal: &[u8]) -> Watched
     requires { ⌜ Legible (now image) × (length (now journal) % stepWidth ≡ 0) ⌝ }
-    ensures { λ r. ⌜ Watches r (now (image .exit)) (record { played = played (replayOf (decode (now (image .entry))) (stepsOf (now (journal .entry)))); first = brokenFrom 0 (decode (now (image .entry))) (stepsOf (now (journal .entry))) }) ⌝ }
+    ensures { λ r. ⌜ Watches r (now (image .exit))
+        (record { played = played (replayOf (decode (now (image .entry))) (stepsOf (now (journal .entry)))); first = brokenFrom 0 (decode (now (image .entry))) (stepsOf (now (journal .entry))) }) ⌝ }
 {
     let mut at = 0usize;
     let mut named = 0usize;

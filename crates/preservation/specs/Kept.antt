@@ -122,7 +122,8 @@ mailed {w} h n l u =
     record { sender = and-left _ _ e1; tag = and-left _ _ e2; entry = and-right (entryZero m) _ e5 }
 
 -- an answer that fits
-answer-fits : (w : World) (s n : ℕ) (x : Shown) → IsServer s → 1 ≤ x .view .0 → x .view .0 ≤ newest w → (present w n && isRequest (message w n .kind)) ≡ true → entryFits (x .entry) ≡ true → sentFits w (answer s n x) ≡ true
+answer-fits : (w : World) (s n : ℕ) (x : Shown) → IsServer s → 1 ≤ x .view .0 → x .view .0 ≤ newest w → (present w n && isRequest (message w n .kind)) ≡ true → entryFits (x .entry) ≡ true
+    → sentFits w (answer s n x) ≡ true
 unfolding sentFits
 answer-fits w s n x i l u q e = and-both _ _ (is-within 1 servers s (i .low) (i .high)) (and-both _ _ (is-within 1 (newest w) (x .view .0) l u) (and-both _ _ q e))
 
@@ -208,12 +209,14 @@ module _ {w : World} (h : Formed w) {s : ℕ} (i : IsServer s) where
       bounds : holds (server w s .keys .0) (server w s .view .0) ≡ true → (1 ≤ server w s .view .0) × (server w s .view .0 ≤ newest w)
       bounds q = holds-bound (server w s .keys .0) (server w s .view .0) (newest w) q (k .keys)
 
-      go : present w n ≡ true → (1 ≤ n) × (n ≤ w .used) → (y : Reply) → Serving (server w s) (message w n) (member w (message w n .view .0) s) y → answers (y .answer) w s n (y .server) ≡ done a → Formed (a .world)
+      go : present w n ≡ true → (1 ≤ n) × (n ≤ w .used) → (y : Reply) → Serving (server w s) (message w n) (member w (message w n .view .0) s) y → answers (y .answer) w s n (y .server)
+          ≡ done a → Formed (a .world)
       go p r y (reads c q d) e = let b = bounds q in answered _ n _ k (b .0) (b .1) (asks w n p (rw c refl)) (k .entry) a (rw d at e)
       go p r y (writes c q d) e =
           let b = bounds q in
           let x = replacing-serves (server w s) (message w n .entry) later k (mailed h n (r .0) (r .1) .entry) in
-          answered _ n _ x (replacing-low (server w s) (message w n .entry) later (b .0)) (replacing-high (newest w) (server w s) (message w n .entry) later (b .1)) (asks w n p (rw c refl)) (x .entry) a (rw d at e)
+          answered _ n _ x (replacing-low (server w s) (message w n .entry) later (b .0)) (replacing-high (newest w) (server w s) (message w n .entry) later (b .1)) (asks w n p (rw c refl))
+          (x .entry) a (rw d at e)
         where
           later : Bool
           later = comparing (server w s) (message w n .entry)
@@ -245,7 +248,8 @@ module _ {w : World} (h : Formed w) {s : ℕ} (i : IsServer s) where
       let (l, e2) = passed _ _ _ _ (g .on) in
       let b = holds-bound (server w s .keys .0) t (newest w) y (server-of h s i .keys) in
       subst (λ (x : After). Formed (x .world)) (done-is e2)
-      (formed-send h _ (room-left w l) (answer-fits w s n (record { view = record { 0 = t }; entry = if (eqb source 0) empty (message w source .entry) }) i (b .0) (b .1) (asks w n p (and-left _ _ q)) (entries (and-right (isRequest (message w n .kind)) _ q))) refl refl)
+      (formed-send h _ (room-left w l) (answer-fits w s n (record { view = record { 0 = t }; entry = if (eqb source 0) empty (message w source .entry) }) i (b .0) (b .1)
+      (asks w n p (and-left _ _ q)) (entries (and-right (isRequest (message w n .kind)) _ q))) refl refl)
     where
       entries : source? w source ≡ true → entryFits (if (eqb source 0) empty (message w source .entry)) ≡ true
       entries q = source-fits h source q
@@ -282,7 +286,8 @@ new-sent {w} h m l kind sender p q =
     (and-both _ _ (eq-eqb _ _ (ap (λ (x : Message). x .kind) e ∙ p)) (eq-eqb _ _ (ap (λ (x : Message). x .sender) e ∙ q)))
 
 -- a READ or WRITE of client c that fits
-client-message : (w : World) (c kind : ℕ) (e : Entry) → IsClient c → (kind ≡ READ) ⊎ (kind ≡ WRITE) → entryZero (request kind c 0 e) ≡ true → entryFits e ≡ true → sentFits w (request kind c 0 e) ≡ true
+client-message : (w : World) (c kind : ℕ) (e : Entry) → IsClient c → (kind ≡ READ) ⊎ (kind ≡ WRITE) → entryZero (request kind c 0 e) ≡ true → entryFits e ≡ true
+    → sentFits w (request kind c 0 e) ≡ true
 unfolding sentFits
 client-message w c kind e i (inl k) z f = rw k (and-both _ _ (is-within 1 clients c (i .low) (i .high)) (and-both _ _ (rw k at z) f))
 client-message w c kind e i (inr k) z f = rw k (and-both _ _ (is-within 1 clients c (i .low) (i .high)) (and-both _ _ (rw k at z) f))
@@ -300,7 +305,8 @@ client-of {w} h c i =
     let r = and-left _ _ e in
     record { entry = and-left _ _ r; given = and-right (entryFits (client w c .entry)) _ r; phase = and-right (clientRange (client w c)) _ e }
 
-begins-kept : {w : World} → Formed w → {c : ℕ} → IsClient c → (kind value : ℕ) → (kind ≡ WRITES) ⊎ ((kind ≡ READS) × (value ≡ 0)) → value ≤ lastCount → (a : After) → begins w c kind value ≡ done a → Formed (a .world)
+begins-kept : {w : World} → Formed w → {c : ℕ} → IsClient c → (kind value : ℕ) → (kind ≡ WRITES) ⊎ ((kind ≡ READS) × (value ≡ 0)) → value ≤ lastCount → (a : After) → begins w c kind value
+    ≡ done a → Formed (a .world)
 unfolding begins begin clientRange
 begins-kept {w} h {c} i kind value k v a e =
     let g = went _ _ _ e in
@@ -384,7 +390,8 @@ linked-room : (w : World) (k : ℕ) → w .used < messages → link w k .used < 
 linked-room w k l = omega (arith, linked-used w k)
 
 -- a client's WRITE is sent
-wrote-kept : {w : World} → Formed w → {c : ℕ} → IsClient c → (a : Client) → w .used < messages → a .phase ≡ Writing (number (w .used + 1)) → within WRITES READS (a .kind) ≡ true → entryFits (a .entry) ≡ true
+wrote-kept : {w : World} → Formed w → {c : ℕ} → IsClient c → (a : Client) → w .used < messages → a .phase ≡ Writing (number (w .used + 1)) → within WRITES READS (a .kind) ≡ true
+    → entryFits (a .entry) ≡ true
     → ltb (a .given .0) (2 ^ 32) ≡ true → Formed (send (withClient w c a) (request WRITE c 0 (a .entry)))
 unfolding clientRange
 wrote-kept {w} h {c} i a l p k f g = send-client w c a m (formed-client (formed-send h m l (client-message w c WRITE (a .entry) i (inr refl) refl f) refl refl) c (i .low) (i .high) a fits)
@@ -531,13 +538,15 @@ module _ {w : World} (h : Formed w) {k r : ℕ} (u : Untaken w k r) where
           below : {x : ℕ} → (x ≡ END → ⊥) → x ≤ END → x ≤ WRITE
           below f l = omega arith
 
-      closing : IsClient (message w r .sender) → (b : Bool) → if b (closes w k (message w r .sender) (chosen (shown w t (takenWith w k))) (atOnce w t (takenWith w k))) (moved (link w k)) ≡ done a → Formed (a .world)
+      closing : IsClient (message w r .sender) → (b : Bool) → if b (closes w k (message w r .sender) (chosen (shown w t (takenWith w k))) (atOnce w t (takenWith w k))) (moved (link w k))
+          ≡ done a → Formed (a .world)
       closing i true e = closes-kept (message w r .sender) i t _ a e
       closing i false e = stays e
 
       go : (b : Bool) → eqb (message w r .kind) END ≡ b → if b (eqb (endOf (w .administrator .ending)) r) (eqb (requestOf (client w (message w r .sender) .phase)) r) ≡ true
           → if b (if (eqb t (newest w) && enough w t (takenWith w k) (writeSize (view w t))) (starts w k (chosen (shown w t (takenWith w k)))) (moved (link w k)))
-          (if (enough w t (takenWith w k) (closeSize (client w (message w r .sender) .phase) (view w t))) (closes w k (message w r .sender) (chosen (shown w t (takenWith w k))) (atOnce w t (takenWith w k))) (moved (link w k))) ≡ done a
+          (if (enough w t (takenWith w k) (closeSize (client w (message w r .sender) .phase) (view w t)))
+          (closes w k (message w r .sender) (chosen (shown w t (takenWith w k))) (atOnce w t (takenWith w k))) (moved (link w k))) ≡ done a
           → Formed (a .world)
       go true b o e = finishing (eqb-true _ _ o) (eqb t (newest w) && enough w t (takenWith w k) (writeSize (view w t))) e
       go false b o e = closing (who b) (enough w t (takenWith w k) (closeSize (client w (message w r .sender) .phase) (view w t))) e
@@ -580,7 +589,8 @@ send-call : (w : World) (a : Administrator) (t : ℕ) (v : View) (m : Message) �
 unfolding withView withAdministrator send
 send-call w a t v m h = h
 
-call-kept : (w : World) (m : Message) → Formed (send w m) → (v : View) (a : Administrator) → sized v ≡ true → newest w < views → a .newest ≡ w .administrator .newest → (r : ℕ) → a .ending ≡ EndSent (number r)
+call-kept : (w : World) (m : Message) → Formed (send w m) → (v : View) (a : Administrator) → sized v ≡ true → newest w < views → a .newest ≡ w .administrator .newest → (r : ℕ) → a .ending
+    ≡ EndSent (number r)
     → isSent (send w m) r END 0 ≡ true → message (send w m) r .view .0 ≡ newest w → Formed (withView (withAdministrator (send w m) a) (newest w + 1) v)
 unfolding send
 call-kept w m f v a z n p r q i t = formed-call f v a z n p r q i t

@@ -1,5 +1,5 @@
 -- Taking an answer keeps every chain: the answer becomes the head of its request's. Assumes nothing.
-use Prim.Native.Nat.{ℕ, suc, _+_, _≤_, _<_}
+use Prim.Native.Nat.{ℕ, suc, _+_, _≤_, _<_, _-_}
 use native.Mathlib.Decide.{ℕ-discrete, decLt}
 use native.Mathlib.Omega.{arith}
 use mathlib.Core.Bool.{Bool, true, false, not, _||_}
@@ -205,18 +205,22 @@ module _ {w : World} {k r : ℕ} (u : Untaken w k r) where
             (outside (takenAnswer w r) (chain w r) k (c .only) (not-taken w r k (λ i. clash (i .taken) (u .free)))) (outside (takenAnswer w r) (chain w r) r (c .only) (no-request w r r (u .asked))),
       )
 
-  chain-rest : Chained w r → follow v 1022 (message v k .next .0) ≡ chain w r
+  -- the links that are left behind the first
+  abbrev left : ℕ
+  left = messages - 1
+
+  chain-rest : Chained w r → follow v left (message v k .next .0) ≡ chain w r
   unfolding chain
   chain-rest c =
       let n = message w r .next .0 in
-      let l : length (follow w 1022 n) < 1022 = omega (arith, follow-longer w 1022 n, chain-short c, u .full) in
-      let s : follow w 1022 n ≡ chain w r = sym (follow-enough w 1022 n l) in
-      ap (λ (m : MessageNumber). follow v 1022 (m .0)) v-next-answer ∙ walk-same r 1022 n (subst (λ (ks : List ℕ). all (takenAnswer w r) ks ≡ true) (sym s) (c .only)) ∙ s
+      let l : length (follow w left n) < left = omega (arith, follow-longer w left n, chain-short c, u .full) in
+      let s : follow w left n ≡ chain w r = sym (follow-enough w left n l) in
+      ap (λ (m : MessageNumber). follow v left (m .0)) v-next-answer ∙ walk-same r left n (subst (λ (ks : List ℕ). all (takenAnswer w r) ks ≡ true) (sym s) (c .only)) ∙ s
 
   pub chain-head : Chained w r → chain v r ≡ (k ∷ chain w r)
   unfolding chain
   chain-head c =
-      ap (λ (n : ℕ). follow v messages n) v-next-request ∙ follow-step v 1022 k (u .low) ∙ ap (λ (ks : List ℕ). k ∷ ks) (chain-rest c)
+      ap (λ (n : ℕ). follow v messages n) v-next-request ∙ follow-step v left k (u .low) ∙ ap (λ (ks : List ℕ). k ∷ ks) (chain-rest c)
 
   chain-new : Chained w r → Chained v r
   unfolding all any distinct

@@ -73,7 +73,8 @@ is-mail w n f g = go (decLe n (w .used))
     go (no h) = let l : w .used < n = omega arith in rw (lt-leb n (w .used) l) (g l)
 
 -- the request of an answer
-pub request-of : {w : World} → Formed w → (n : ℕ) → 1 ≤ n → n ≤ w .used → message w n .kind ≡ ANSWER → (present w (message w n .request .0) && isRequest (message w (message w n .request .0) .kind)) ≡ true
+pub request-of : {w : World} → Formed w → (n : ℕ) → 1 ≤ n → n ≤ w .used → message w n .kind ≡ ANSWER
+    → (present w (message w n .request .0) && isRequest (message w (message w n .request .0) .kind)) ≡ true
 unfolding sentFits
 request-of {w} h n l u k =
     let e = mail-sent h n l u in
@@ -166,7 +167,8 @@ fits-server w s a q e = rw q e
 pub formed-server : {w : World} → Formed w → (s : ℕ) → 1 ≤ s → s ≤ servers → (b : Server) → serverOk (newest w) b ≡ true → Formed (withServer w s b)
 unfolding withServer server client
 formed-server {w} h s l u b e =
-    formed-other h (replace (w .serverList) s b) (w .clientList) (length-replace (w .serverList) s b ∙ h .serverCount) (h .clientCount) (λ x a c. go x a c (ℕ-discrete x s)) (λ c a d. clients-kept c (h .client c a d))
+    formed-other h (replace (w .serverList) s b) (w .clientList) (length-replace (w .serverList) s b ∙ h .serverCount) (h .clientCount) (λ x a c. go x a c (ℕ-discrete x s))
+    (λ c a d. clients-kept c (h .client c a d))
   where
     go : (x : ℕ) → 1 ≤ x → x ≤ servers → Dec (x ≡ s) → serverFits (withServer w s b) x ≡ true
     go x a c (yes q) = rw q (fits-server (withServer w s b) s b (server-same w s b l (omega (arith, h .serverCount))) e)
@@ -349,7 +351,8 @@ module _ {w : World} (h : Formed w) {k r : ℕ} (u : Untaken w k r) where
   linked-onward = record { used = omega (arith, link-used w k); newest = link-newest w k; same = λ i a b. sent-link w k i }
 
   linked-fits : (n : ℕ) → 1 ≤ n → n ≤ w .used → sentFits (link w k) (message (link w k) n) ≡ true
-  linked-fits n a b = fits-on linked-onward (message (link w k) n) (refit w (message w n) (message (link w k) n) (contents n) (marks (ℕ-discrete n k)) (nexts (ℕ-discrete n k) (ℕ-discrete n r)) (mail-sent h n a b))
+  linked-fits n a b =
+      fits-on linked-onward (message (link w k) n) (refit w (message w n) (message (link w k) n) (contents n) (marks (ℕ-discrete n k)) (nexts (ℕ-discrete n k) (ℕ-discrete n r)) (mail-sent h n a b))
     where
       contents : (n : ℕ) → content (message (link w k) n) ≡ content (message w n)
       contents n = same-content w k n

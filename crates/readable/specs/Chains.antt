@@ -52,7 +52,8 @@ pub record Chain (w : World) (r : ℕ) : Type 0 where
 pub chain-parts : (w : World) (r : ℕ) → chainFits w r ≡ true → isRequest (message w r .kind) ≡ true → Chain w r
 unfolding chainFits ends chain
 chain-parts w r e q =
-    let x = implied (isRequest (message w r .kind)) (ends w r && (all (takenAnswer w r) (chain w r) && (allTo (λ k. not (takenAnswer w r k) || any (eqb k) (chain w r)) (w .used) && distinct (chain w r)))) e q in
+    let x = implied (isRequest (message w r .kind)) (ends w r && (all (takenAnswer w r) (chain w r) &&
+    (allTo (λ k. not (takenAnswer w r k) || any (eqb k) (chain w r)) (w .used) && distinct (chain w r)))) e q in
     let a = both (ends w r) (all (takenAnswer w r) (chain w r) && (allTo (λ k. not (takenAnswer w r k) || any (eqb k) (chain w r)) (w .used) && distinct (chain w r))) x in
     let b = both (all (takenAnswer w r) (chain w r)) (allTo (λ k. not (takenAnswer w r k) || any (eqb k) (chain w r)) (w .used) && distinct (chain w r)) (a .1) in
     let c = both (allTo (λ k. not (takenAnswer w r k) || any (eqb k) (chain w r)) (w .used)) (distinct (chain w r)) (b .1) in

@@ -52,7 +52,8 @@ pub record Sent (w : World) (m : Message) : Type 0 where
 pub sent : (w : World) (m : Message) → sentFits w m ≡ true → Sent w m
 unfolding sentFits
 sent w m e =
-    let a = both (within READ ANSWER (m .kind)) (senderFits (m .kind) (m .sender) && (tagRule (newest w) (m .kind) (m .view .0) && (requestFits w m && (nextFits m && (entryZero m && entryFits (m .entry)))))) e in
+    let a = both (within READ ANSWER (m .kind)) (senderFits (m .kind) (m .sender) &&
+    (tagRule (newest w) (m .kind) (m .view .0) && (requestFits w m && (nextFits m && (entryZero m && entryFits (m .entry)))))) e in
     let b = both (senderFits (m .kind) (m .sender)) (tagRule (newest w) (m .kind) (m .view .0) && (requestFits w m && (nextFits m && (entryZero m && entryFits (m .entry))))) (a .1) in
     let c = both (tagRule (newest w) (m .kind) (m .view .0)) (requestFits w m && (nextFits m && (entryZero m && entryFits (m .entry)))) (b .1) in
     let d = both (requestFits w m) (nextFits m && (entryZero m && entryFits (m .entry))) (c .1) in

@@ -138,8 +138,10 @@ view-below w t e =
 server-below : (w : World) → newest w ≤ views → (s : ℕ) → serverFits w s ≡ true → ServerFits (server w s)
 unfolding serverFits
 server-below w h s e =
-    let a = both (leb (server w s .view .0) (newest w)) (ltb (server w s .keys .0) (2 ^ newest w) && ((server w s .faulty || (eqb (server w s .keys .0) 0 || eqb (server w s .keys .0) (bitOf (server w s .view .0)))) && entryFits (server w s .entry))) e in
-    let b = both (ltb (server w s .keys .0) (2 ^ newest w)) ((server w s .faulty || (eqb (server w s .keys .0) 0 || eqb (server w s .keys .0) (bitOf (server w s .view .0)))) && entryFits (server w s .entry)) (a .1) in
+    let a = both (leb (server w s .view .0) (newest w)) (ltb (server w s .keys .0) (2 ^ newest w) &&
+    ((server w s .faulty || (eqb (server w s .keys .0) 0 || eqb (server w s .keys .0) (bitOf (server w s .view .0)))) && entryFits (server w s .entry))) e in
+    let b = both (ltb (server w s .keys .0) (2 ^ newest w)) ((server w s .faulty || (eqb (server w s .keys .0) 0 || eqb (server w s .keys .0) (bitOf (server w s .view .0)))) && entryFits
+    (server w s .entry)) (a .1) in
     let c = both (server w s .faulty || (eqb (server w s .keys .0) 0 || eqb (server w s .keys .0) (bitOf (server w s .view .0)))) (entryFits (server w s .entry)) (b .1) in
     record {
       keys = lt-of-lt-of-le (ltb-true (server w s .keys .0) (2 ^ newest w) (b .0)) (pow-mono {i = newest w} {j = 32} h);
@@ -216,11 +218,13 @@ module _ (w : World) (h : Formed w) where
       let u = in-used in
       by-test (eqb (message w n .kind) ANSWER)
       (λ q.
-      let f = sym (if-true (eqb (message w n .kind) ANSWER) (present w (message w n .request .0) && isRequest (message w (message w n .request .0) .kind)) (not (message w n .taken) && eqb (message w n .request .0) 0) q) ∙ s in
+      let f = sym (if-true (eqb (message w n .kind) ANSWER) (present w (message w n .request .0) && isRequest (message w (message w n .request .0) .kind))
+      (not (message w n .taken) && eqb (message w n .request .0) 0) q) ∙ s in
       let p = present-in w r (both (present w (message w n .request .0)) (isRequest (message w (message w n .request .0) .kind)) f .0) in
       omega arith)
       (λ q.
-      let f = sym (if-false (eqb (message w n .kind) ANSWER) (present w (message w n .request .0) && isRequest (message w (message w n .request .0) .kind)) (not (message w n .taken) && eqb (message w n .request .0) 0) q) ∙ s in
+      let f = sym (if-false (eqb (message w n .kind) ANSWER) (present w (message w n .request .0) && isRequest (message w (message w n .request .0) .kind))
+      (not (message w n .taken) && eqb (message w n .request .0) 0) q) ∙ s in
       let z = eqb-true (message w n .request .0) 0 (both (not (message w n .taken)) (eqb (message w n .request .0) 0) f .1) in
       omega arith)
 

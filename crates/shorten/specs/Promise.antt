@@ -81,7 +81,8 @@ module _ (i : List ℕ) (bits f reads : ℕ) (j s : List ℕ) where
           let same : length bs ≡ k = cc in
           subst (λ (n : ℕ). Given bits f reads j n (encode w) (filled (length s) bs)) same (given i bits f reads j s (lent-well i j s (p .0)) w (p .1) bs q)
 
-      first : (x : Result World) → guard (lentWell i j s) 1 (fresh bits f reads) ≡ x → begunFrom x i j s .answer ≡ done k → Given bits f reads j k (begunFrom x i j s .image) (begunFrom x i j s .shorter)
+      first : (x : Result World) → guard (lentWell i j s) 1 (fresh bits f reads) ≡ x → begunFrom x i j s .answer ≡ done k
+          → Given bits f reads j k (begunFrom x i j s .image) (begunFrom x i j s .shorter)
       first (refused n) e b = let z : _≡_ {A = ℕ} 0 1 = cc in absurd (omega arith)
       first (done w) e b = second w e (shortened w (stepsOf j)) refl b
 

@@ -295,7 +295,8 @@ module _ (w : World) (k : ℕ) where
     unfolding clientTaken
     client-open c s o = rw (← s, stays-open (enough w (message w k .view .0) (takenWith w k) size) x (choice w (message w k .view .0) (takenWith w k)) p o)
 
-    pub client-closed : (c : ℕ) → size ≡ closeSize (client w c .phase) (view w (message w k .view .0)) → (e : Choice) → x ≡ Closed e → (one : Bool) → one ≡ e .one && oneExchange (view w (message w k .view .0)) → clientTaken w k c ≡ closes w k c (e .entry) one
+    pub client-closed : (c : ℕ) → size ≡ closeSize (client w c .phase) (view w (message w k .view .0)) → (e : Choice) → x ≡ Closed e → (one : Bool) → one ≡ e .one
+        && oneExchange (view w (message w k .view .0)) → clientTaken w k c ≡ closes w k c (e .entry) one
     unfolding clientTaken
     client-closed c s e o one q =
         let (b, d) = is-closed (enough w (message w k .view .0) (takenWith w k) size) x (choice w (message w k .view .0) (takenWith w k)) p e o in

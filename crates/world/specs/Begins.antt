@@ -10,7 +10,7 @@ use Rattle.protocol.specs.declared.GivenUp.the-variants.{GiveUpRefused, GaveUp}
 use Rattle.protocol.specs.declared.Begun.{Begun}
 use Rattle.protocol.specs.declared.Begun.the-variants.{BeginRefused, Began}
 use Rattle.protocol.specs.Tools.{guard}
-use Rattle.protocol.specs.Sizes.{clients}
+use Rattle.protocol.specs.Sizes.{clients, messages}
 use Rattle.protocol.specs.Entries.{empty}
 use Rattle.protocol.specs.Servers.{READ}
 use Rattle.protocol.specs.Clients.{begin, begun, giveUp, givenUp}
@@ -36,11 +36,11 @@ module _ {l : List ℕ} (h : Legible l) (c kind value : ℕ) (a : 1 ≤ c) (b : 
   unfolding begins
   begins-no x f = refuses _ x l _ refl (rw (rule, f) refl)
 
-  pub begins-full : (x : Client) → r ≡ Began x → 1023 ≤ u → Does (StepRefused 10) l l (begins (decode l) c kind value)
+  pub begins-full : (x : Client) → r ≡ Began x → messages ≤ u → Does (StepRefused 10) l l (begins (decode l) c kind value)
   unfolding begins guard
   begins-full x f n = refuses _ 10 l _ refl (rw (rule, f, room-no h (omega arith)) refl)
 
-  pub begins-done : (x : Client) (l′ : List ℕ) → r ≡ Began x → u < 1023 → l′ ≡ putSent (putClient l c x) (u + 1) (request READ c 0 empty) → Does (StepDone 0) l l′ (begins (decode l) c kind value)
+  pub begins-done : (x : Client) (l′ : List ℕ) → r ≡ Began x → u < messages → l′ ≡ putSent (putClient l c x) (u + 1) (request READ c 0 empty) → Does (StepDone 0) l l′ (begins (decode l) c kind value)
   unfolding begins guard
   begins-done x l′ f n d =
       does 0 (send (withClient (decode l) c x) (request READ c 0 empty)) l l′ _ (rw (rule, f, room-yes h (omega arith)) refl)

@@ -8,6 +8,7 @@ use crate::generate::answers::list;
 use crate::generate::calls::{administrator_call, client_call, server_call, spoil_call};
 use crate::generate::journals::{any_read_size, journal};
 use crate::generate::logs::{kept, log};
+use crate::generate::phases::{arriving, given, opened, spoiled as spoiled_phase};
 use crate::generate::profile::{Profile, LATECOMERS, PROFILES, WRECK};
 use crate::generate::specimen::specimen;
 use crate::generate::spoils::{change_byte, spoiled};
@@ -19,6 +20,7 @@ use crate::journal::Journal;
 use crate::judge::{bytes, log_of, LINES, LINE_SIZE, PLACE_SIZE};
 use crate::layout::{ENTRY_SIZE, HOLDERS_AT, IMAGE_SIZE, STEP_SIZE, VIEWS};
 use crate::operations::FIRST_SIZE;
+use crate::phase::{answer_and_view, PHASE_SIZE};
 use crate::readable::Clause;
 use crate::record::{step_kind, Step};
 use crate::rules::Sound;
@@ -53,6 +55,8 @@ pub fn run_all(comparison: &mut Comparison, steps: usize, journals: usize, seed:
     broken_premises(comparison, &mut draws, journals);
     logs(comparison, &mut draws, steps / 4);
     lists(comparison, &mut draws, steps);
+    openings(comparison, &mut draws, steps / 10);
+    phases(comparison, &mut draws, steps / 10);
     let before = comparison.steps;
     while comparison.steps - before < steps as u64 {
         // Images from runs, and images from nowhere.
@@ -238,6 +242,53 @@ fn lists(comparison: &mut Comparison, draws: &mut Draws, count: usize) {
             // More answers than there can be servers.
             let many = [0x21; 40 * vouch::ANSWER_SIZE];
             comparison.vouch(&list, &many, ENTRY_SIZE);
+        }
+    }
+}
+
+/// Records of phases opened over buffers that hold something.
+fn openings(comparison: &mut Comparison, draws: &mut Draws, count: usize) {
+    for _ in 0..count {
+        let length = match draws.below(20) {
+            0 => draws.below(2 * PHASE_SIZE),
+            _ => PHASE_SIZE,
+        };
+        let kind = draws.below(6) as u8;
+        let view = *draws.pick(&[0, 0, 1, 31, 32, 33, 255]).expect("views");
+        let request = *draws
+            .pick(&[0, 1, 9, 1023, 1024, u16::MAX])
+            .expect("numbers");
+        comparison.open(&vec![0xff; length], kind, view, request);
+    }
+}
+
+/// Phases with all the answers that arrive for them, and some after they are
+/// closed. The record is at each place that of the list of the answers taken.
+fn phases(comparison: &mut Comparison, draws: &mut Draws, count: usize) {
+    for _ in 0..count {
+        let mut opened = opened(draws);
+        let head = opened.phase.head;
+        let mut record = comparison.open(&[0xff; PHASE_SIZE], head.kind, head.view, head.request);
+        let mut late = 0;
+        while late < 3 {
+            late += usize::from(opened.phase.head.request == 0);
+            let (message, view) = arriving(&opened, head.request, draws);
+            let bytes = given(message, view, draws);
+            if draws.chance(5) {
+                let mut garbage = spoiled_phase(&record, opened.views[0].0, draws);
+                comparison.answer(&mut garbage, &bytes, ENTRY_SIZE);
+            }
+            if draws.chance(2) {
+                let length = draws.below(ENTRY_SIZE);
+                comparison.answer(&mut record.clone(), &bytes, length);
+                comparison.answer(&mut record.clone(), &bytes, length + ENTRY_SIZE + 1);
+            }
+            if comparison.answer(&mut record, &bytes, ENTRY_SIZE) {
+                let (message, view) = answer_and_view(&bytes);
+                let taken = opened.phase.take(&message, &view);
+                taken.expect("what the record takes the list takes");
+            }
+            comparison.same_end(&record, &opened.phase.record(), "the list of the answers");
         }
     }
 }

@@ -9,6 +9,7 @@ use crate::judge::{is_judged, judge, lines, PLACE_SIZE};
 use crate::layout::STEP_SIZE;
 use crate::load::load;
 use crate::operations;
+use crate::phase;
 use crate::quorum::{packed, quorum_size};
 use crate::readable::broken;
 use crate::refusal::Reason;
@@ -65,6 +66,8 @@ pub struct Comparison<'a> {
     pub watched: u64,
     /// Journals shortened.
     pub shortened: u64,
+    /// Answers given to phases.
+    pub given: u64,
     /// The first differences, in words.
     pub told: Vec<String>,
 }
@@ -83,6 +86,7 @@ impl<'a> Comparison<'a> {
             logs: 0,
             watched: 0,
             shortened: 0,
+            given: 0,
             lists: 0,
             told: Vec::new(),
         }
@@ -425,6 +429,50 @@ impl<'a> Comparison<'a> {
             |record, asked| single::administrator_call(record, asked).map(|()| 0),
             |library, record, asked| library.administrator(record, asked),
         );
+    }
+
+    /// A phase opened over this buffer; the buffer after it.
+    pub fn open(&mut self, buffer: &[u8], kind: u8, view: u8, request: u16) -> Vec<u8> {
+        let mut after = buffer.to_vec();
+        let ours = phase::open(&mut after, kind, view, request);
+        match ours {
+            Ok(()) => self.counts.accept(Operation::Open),
+            Err(reason) => self.counts.refuse(Operation::Open, reason),
+        }
+        let what = format!("open({} bytes, {kind}, {view}, {request})", buffer.len());
+        let answer = pack_result(ours.map(|()| 0));
+        self.compare_image(buffer, &after, answer, &what, |library, record| {
+            library.open(record, kind, view, request)
+        });
+        after
+    }
+
+    /// An answer with its view given to a phase, with a buffer of this length for
+    /// the entry; whether it is taken.
+    pub fn answer(&mut self, record: &mut [u8], given: &[u8], length: usize) -> bool {
+        self.given += 1;
+        let before = record.to_vec();
+        let mut entry = vec![MARK; length];
+        let ours = phase::answer(record, given, &mut entry);
+        match ours {
+            Ok(verdict) => {
+                self.counts.accept(Operation::Answer);
+                self.counts.gave(before[0], verdict.number());
+            }
+            Err(reason) => self.counts.refuse(Operation::Answer, reason),
+        }
+        let what = format!("answer {given:?} ({ours:?})");
+        let answer = pack_result(ours.map(|verdict| verdict.number()));
+        let mut lent = Lent::new(given);
+        let expected = lent.bytes.clone();
+        let mut written = Lent::new(&vec![MARK; length]);
+        self.compare_image(&before, record, answer, &what, |library, record| {
+            library.answer(record, lent.content(), written.content())
+        });
+        let same = written.content() == entry && written.margins_whole();
+        self.score(same, || format!("{what}: another entry"));
+        self.unwritten(&lent, &expected, &what);
+        ours.is_ok()
     }
 
     fn single(

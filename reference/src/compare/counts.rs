@@ -37,9 +37,12 @@ pub enum Operation {
     Server,
     Client,
     Administrator,
+    /// The record of a phase: opened, and an answer given to it.
+    Open,
+    Answer,
 }
 
-pub const OPERATIONS: [Operation; 24] = [
+pub const OPERATIONS: [Operation; 26] = [
     Operation::Fresh,
     Operation::Quorum,
     Operation::Write,
@@ -64,6 +67,8 @@ pub const OPERATIONS: [Operation; 24] = [
     Operation::Server,
     Operation::Client,
     Operation::Administrator,
+    Operation::Open,
+    Operation::Answer,
 ];
 
 impl Operation {
@@ -117,6 +122,9 @@ pub struct Counts {
     pub deeds: BTreeMap<Deed, u64>,
     /// Unreadable images that one clause alone refuses, by that clause.
     pub clauses: BTreeMap<Clause, u64>,
+    /// Answers given to phases, by the request's kind and what they did: 0 open,
+    /// 1 closed, 2 closed, and a read may end.
+    pub given: BTreeMap<(u8, u64), u64>,
     /// Steps after which the premise first did not hold, by what was asked.
     pub broke: BTreeMap<Operation, u64>,
     /// What was met around a restart, by whether the pending view is a new one
@@ -137,6 +145,11 @@ impl Counts {
 
     pub fn did(&mut self, deed: Deed) {
         *self.deeds.entry(deed).or_default() += 1;
+    }
+
+    /// An answer to a request of this kind was taken, and did this.
+    pub fn gave(&mut self, kind: u8, verdict: u64) {
+        *self.given.entry((kind, verdict)).or_default() += 1;
     }
 
     /// The premise held before this step and not after it.

@@ -4,6 +4,7 @@
 use crate::judge::judge;
 use crate::load::load;
 use crate::operations;
+use crate::phase;
 use crate::quorum::{packed, quorum_size};
 use crate::refusal::Reason;
 use crate::shorten::shorten;
@@ -59,6 +60,10 @@ pub trait Library {
     fn client(&self, record: &mut [u8], asked: &[u8]) -> u64;
     /// The administrator's rule on its record: the refusal.
     fn administrator(&self, record: &mut [u8], asked: &[u8]) -> u64;
+    /// The record of a phase is opened: the refusal.
+    fn open(&self, phase: &mut [u8], kind: u8, view: u8, request: u16) -> u64;
+    /// An answer given to a phase: the refusal, and 1 or 2 if it is closed.
+    fn answer(&self, phase: &mut [u8], given: &[u8], entry: &mut [u8]) -> u64;
 }
 
 /// The refusal and the result in one number.
@@ -154,5 +159,13 @@ impl Library for Reference {
 
     fn administrator(&self, record: &mut [u8], asked: &[u8]) -> u64 {
         pack_result(single::administrator_call(record, asked).map(|()| 0))
+    }
+
+    fn open(&self, record: &mut [u8], kind: u8, view: u8, request: u16) -> u64 {
+        pack_result(phase::open(record, kind, view, request).map(|()| 0))
+    }
+
+    fn answer(&self, record: &mut [u8], given: &[u8], entry: &mut [u8]) -> u64 {
+        pack_result(phase::answer(record, given, entry).map(|verdict| verdict.number()))
     }
 }

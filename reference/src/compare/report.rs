@@ -18,6 +18,7 @@ pub fn report(comparison: &Comparison) -> String {
     deeds(comparison, &mut text);
     around(comparison, &mut text);
     rules(comparison, &mut text);
+    phases(comparison, &mut text);
     broken(comparison, &mut text);
     clauses(comparison, &mut text);
     for told in &comparison.told {
@@ -34,13 +35,14 @@ pub fn report(comparison: &Comparison) -> String {
         &mut text,
         &format!(
             "{} single steps, {} journals ({} replays), {} calls of single machines, {} logs, {} lists of \
-             answers, {} watched and {} shortened journals compared",
+             answers, {} answers to phases, {} watched and {} shortened journals compared",
             comparison.steps,
             comparison.journals,
             comparison.replays,
             comparison.singles,
             comparison.logs,
             comparison.lists,
+            comparison.given,
             comparison.watched,
             comparison.shortened,
         ),
@@ -167,6 +169,19 @@ fn rules(comparison: &Comparison, text: &mut String) {
                 ),
             );
         }
+    }
+    line(text, "");
+}
+
+fn phases(comparison: &Comparison, text: &mut String) {
+    line(text, "What answers did to phases, by the request's kind");
+    for ((kind, verdict), count) in &comparison.counts.given {
+        let words = match verdict {
+            0 => "open",
+            1 => "closed",
+            _ => "closed, and a read may end",
+        };
+        line(text, &format!("{:40}{count:>8}", format!("{kind} {words}")));
     }
     line(text, "");
 }

@@ -6,6 +6,7 @@ pub mod calls;
 pub mod journals;
 pub mod logs;
 pub mod moves;
+pub mod phases;
 pub mod profile;
 pub mod specimen;
 pub mod spoils;

@@ -31,6 +31,11 @@ struct Changed {
     /// What becomes of the entry chosen, by the second choice or the first,
     /// beside the answer.
     entry: fn(bool, u64, &mut [u8]),
+    /// The answer of one given to a phase, and what becomes of the record and of
+    /// the entry.
+    given: fn(u64, &mut [u8], &mut [u8]) -> u64,
+    /// What becomes of a phase that is opened.
+    opened: fn(&mut [u8]),
 }
 
 /// Nothing changed yet.
@@ -46,6 +51,8 @@ fn same() -> Changed {
         short: |_, _, _| {},
         first: |_, _| {},
         entry: |_, _, _| {},
+        given: |answer, _, _| answer,
+        opened: |_| {},
     }
 }
 
@@ -150,6 +157,17 @@ impl Library for Changed {
 
     fn administrator(&self, record: &mut [u8], asked: &[u8]) -> u64 {
         self.machine(Reference.administrator(record, asked), record)
+    }
+
+    fn open(&self, phase: &mut [u8], kind: u8, view: u8, request: u16) -> u64 {
+        let answer = Reference.open(phase, kind, view, request);
+        (self.opened)(phase);
+        answer
+    }
+
+    fn answer(&self, phase: &mut [u8], given: &[u8], entry: &mut [u8]) -> u64 {
+        let answer = Reference.answer(phase, given, entry);
+        (self.given)(answer, phase, entry)
     }
 }
 
@@ -364,6 +382,48 @@ fn another_entry_chosen_fails() {
     for entry in others {
         assert!(!passes(&Changed { entry, ..same() }));
     }
+}
+
+#[test]
+fn another_phase_fails() {
+    let others: [fn(u64, &mut [u8], &mut [u8]) -> u64; 5] = [
+        // A read may never end, a closed phase stays open, a server is not heard,
+        // another entry, and a byte beside a refusal.
+        |answer, _, _| answer.min(256),
+        |answer, phase, _| {
+            if answer == 256 || answer == 512 {
+                phase[0] = 1;
+            }
+            answer
+        },
+        |answer, phase, _| {
+            if answer == 0 {
+                phase[4] &= 0xfe;
+            }
+            answer
+        },
+        |answer, _, entry| {
+            if answer == 256 {
+                entry[8] ^= 1;
+            }
+            answer
+        },
+        |answer, _, entry| {
+            if answer % 256 == 7 {
+                entry[0] ^= 1;
+            }
+            answer
+        },
+    ];
+    for given in others {
+        assert!(!passes(&Changed { given, ..same() }));
+    }
+    let opened: fn(&mut [u8]) = |phase| {
+        if let Some(last) = phase.last_mut() {
+            *last ^= 1;
+        }
+    };
+    assert!(!passes(&Changed { opened, ..same() }));
 }
 
 #[test]

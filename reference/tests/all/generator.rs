@@ -288,6 +288,25 @@ fn log_paths() -> Vec<(Operation, Reason)> {
         .collect()
 }
 
+/// The refusals of the record of a phase.
+fn phase_paths() -> Vec<(Operation, Reason)> {
+    use Reason::*;
+    let opens = [RecordLength, CallRange].map(|reason| (Operation::Open, reason));
+    let given = [
+        RecordLength,
+        EntryLength,
+        RecordRange,
+        CallRange,
+        NotAnAnswer,
+        TakenBefore,
+        NobodyWaits,
+        SizeRule,
+        ReadSize,
+    ];
+    let given = given.map(|reason| (Operation::Answer, reason));
+    opens.into_iter().chain(given).collect()
+}
+
 /// Every path to a refusal that exists.
 fn every_path() -> BTreeSet<(Operation, Reason)> {
     let mut paths = BTreeSet::from([
@@ -327,6 +346,7 @@ fn every_path() -> BTreeSet<(Operation, Reason)> {
     paths.extend(single_paths());
     paths.extend(log_paths());
     paths.extend(list_paths());
+    paths.extend(phase_paths());
     let steps = [
         Operation::Write,
         Operation::Read,
@@ -445,6 +465,12 @@ fn the_cases_reach_every_refusal_by_every_path_and_every_close() {
     }
     let deeds: BTreeSet<Deed> = counts.deeds.keys().copied().collect();
     assert_eq!(deeds, every_deed());
+    // A phase of each kind stays open and closes; only of READ a read may end.
+    let given: Vec<(u8, u64)> = counts.given.keys().copied().collect();
+    assert_eq!(
+        given,
+        [(1, 0), (1, 1), (1, 2), (2, 0), (2, 1), (3, 0), (3, 1)]
+    );
     // The premise breaks by faults and by STARTs, and by nothing else.
     let broke: Vec<_> = counts.broke.iter().collect();
     assert!(

@@ -9,6 +9,7 @@ mod ideas;
 mod judge;
 mod load;
 mod one_exchange;
+mod phase;
 mod program;
 mod quorum;
 mod readable;

@@ -1,7 +1,7 @@
 //! `zemawulo vouch`: a choice among entries without a signature.
 
-use zemawulo::bytes::ANSWER;
-use zemawulo::{Answer, LAST_SERVER};
+use zemawulo::bytes::UNSIGNED_ANSWER;
+use zemawulo::{UnsignedAnswer, LAST_SERVER};
 
 use super::Command;
 use crate::failure::Failure;
@@ -39,13 +39,15 @@ fn run(options: &Options) -> Result<(), Failure> {
     let (n, b) = (options.number("--n")?, options.number("--b")?);
     let largest = options.optional("--largest")?;
     let mut records = Records::open(name, options.has("--text"), &ANSWERS)?;
-    let list = records.all((usize::from(LAST_SERVER) + 1) * ANSWER)?;
-    if list.len() % ANSWER != 0 {
+    let list = records.all((usize::from(LAST_SERVER) + 1) * UNSIGNED_ANSWER)?;
+    if list.len() % UNSIGNED_ANSWER != 0 {
         return Err(Failure::refused(name, zemawulo::Refusal::Length));
     }
-    let answers = list.chunks_exact(ANSWER);
-    let answers: Vec<Answer> = answers
-        .map(|bytes| Answer::from_bytes(bytes.try_into().unwrap_or([0xff; ANSWER])))
+    let answers = list.chunks_exact(UNSIGNED_ANSWER);
+    let answers: Vec<UnsignedAnswer> = answers
+        .map(|bytes| {
+            UnsignedAnswer::from_bytes(bytes.try_into().unwrap_or([0xff; UNSIGNED_ANSWER]))
+        })
         .collect();
     let chosen = match largest {
         None => zemawulo::vouch(&answers, n, b),

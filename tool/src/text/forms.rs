@@ -1,7 +1,7 @@
 //! The forms of a line: a word and its fields. One row here is all that a new
 //! kind or field needs.
 
-use zemawulo::bytes::{ANSWER, LOG_LINE, STEP};
+use zemawulo::bytes::{LOG_LINE, STEP, UNSIGNED_ANSWER};
 
 /// Where a field stands in its record, and how it is written.
 pub struct Field {
@@ -123,7 +123,7 @@ pub const LOG: Format = Format {
 
 /// Answers without a signature.
 pub const ANSWERS: Format = Format {
-    width: ANSWER,
+    width: UNSIGNED_ANSWER,
     kind_at: None,
     forms: &[form(
         "answer",

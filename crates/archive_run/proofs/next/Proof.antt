@@ -40,13 +40,16 @@ same-length : tie.Need-same-length
 same-length c = search needs
 
 returns-2 : tie.Need-returns-2
-returns-2 c = says-stop _ _ _ _ _ (c .before .t .given .1) (c .before .before .before .before .before .before .turn .ensures .0 .0) (c .before .before .before .before .before .before .turn .ensures .0 .1)
+returns-2 c =
+    says-stop _ _ _ _ _ (c .before .t .given .1) (c .before .before .before .before .before .before .turn .ensures .0 .0) (c .before .before .before .before .before .before .turn .ensures .0 .1)
 
 same-length-2 : tie.Need-same-length-2
 same-length-2 c = search needs
 
 returns-3 : tie.Need-returns-3
-returns-3 c = says-more _ _ _ _ _ (c .before .before .before .t2 .given .1) (c .before .before .before .before .before .before .before .before .turn .ensures .0 .0) (c .before .before .before .before .before .before .before .before .turn .ensures .0 .1)
+returns-3 c =
+    says-more _ _ _ _ _ (c .before .before .before .t2 .given .1) (c .before .before .before .before .before .before .before .before .turn .ensures .0 .0)
+    (c .before .before .before .before .before .before .before .before .turn .ensures .0 .1)
 
 pub next-spec : {M : Type 1} → statement M
 next-spec = tie.close (tie.spec slice-aggregate-read-full read-full-requires returns array-share-prefix-bytes slice-aggregate-turn slice-aggregate-turn-2 turn-requires enum-known-t enum-known-t-2 slice-aggregate-print print-requires same-length returns-2 same-length-2 returns-3)

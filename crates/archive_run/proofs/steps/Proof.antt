@@ -26,7 +26,8 @@ same-length : tie.Need-same-length Inv-loop μ-loop
 same-length c = c .before .before .before .before .before .next .kept .0 ∙ c .before .before .before .before .before .before .before .before .loop .inv .0
 
 returns : tie.Need-returns Inv-loop μ-loop
-returns c = stopped _ _ _ _ _ _ (c .before .before .before .before .before .before .before .before .loop .inv .1) (c .before .refusal .given .1) (c .before .before .before .before .before .next .ensures)
+returns c =
+    stopped _ _ _ _ _ _ (c .before .before .before .before .before .before .before .before .loop .inv .1) (c .before .refusal .given .1) (c .before .before .before .before .before .next .ensures)
 
 enum-told : tie.Need-enum-told Inv-loop μ-loop
 enum-told c = search needs
@@ -38,7 +39,11 @@ loop-less : tie.Need-loop-less Inv-loop μ-loop
 loop-less c = search needs
 
 loop-again : tie.Need-loop-again Inv-loop μ-loop
-loop-again c = (c .before .before .before .before .next .kept .0 ∙ c .before .before .before .before .before .before .before .loop .inv .0, counted _ _ _ _ _ (c .before .before .before .before .before .before .before .loop .inv .1) (c .enum-told .given .1) (c .before .before .before .before .next .ensures))
+loop-again c = (
+  c .before .before .before .before .next .kept .0 ∙ c .before .before .before .before .before .before .before .loop .inv .0,
+  counted _ _ _ _ _
+      (c .before .before .before .before .before .before .before .loop .inv .1) (c .enum-told .given .1) (c .before .before .before .before .next .ensures),
+)
 
 same-length-2 : tie.Need-same-length-2 Inv-loop μ-loop
 same-length-2 c = c .before .loop .inv .0

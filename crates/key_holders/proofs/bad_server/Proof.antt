@@ -30,7 +30,12 @@ returns-2 c =
     let a = c .before .before .before .before .before .before .args in
     let h = c .before .before .before .before .before .before .pre in
     let i = a .image .now in
-    rw (server-decode i (a .s .0) (h .3) (h .4), ← c .before .before .before .before .load-server .ensures, not-false (c .before .before .before .before .load-server .result .faulty) (c .before .before .if1 .left)) (ap bit (c .has-key .ensures))
+    rw (
+      server-decode i (a .s .0) (h .3) (h .4),
+      ← c .before .before .before .before .load-server .ensures,
+      not-false (c .before .before .before .before .load-server .result .faulty)
+          (c .before .before .if1 .left),
+    ) (ap bit (c .has-key .ensures))
 
 pub bad-server-spec : {M : Type 1} → statement M
 bad-server-spec =

@@ -29,7 +29,9 @@ holder-ok-requires c κs =
     (h .0, omega arith, omega arith, h .1, h .2)
 
 returns : tie.Need-returns Inv-loop μ-loop
-returns c = sym (all-fails (holderOk (c .before .before .before .before .before .args .image .now)) views (c .before .before .before .loop .k + 1) (omega arith) (omega arith) (sym (c .before .holder-ok .ensures) ∙ not-true _ (c .if1 .taken)))
+returns c =
+    sym (all-fails (holderOk (c .before .before .before .before .before .args .image .now)) views (c .before .before .before .loop .k + 1) (omega arith) (omega arith)
+    (sym (c .before .holder-ok .ensures) ∙ not-true _ (c .if1 .taken)))
 
 add-k : tie.Need-add-k Inv-loop μ-loop
 add-k c = search needs

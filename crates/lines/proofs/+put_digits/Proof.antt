@@ -84,7 +84,10 @@ put-digits-returns-2 : (t : ℕ) → put-digits-lts.Need-returns-2 (
   put-digits-below t,
   put-digits.Post,
 ) (put-digits-at t) put-digits.Post
-put-digits-returns-2 t c = digits-last (c .before .before .before .before .before .before .before .before .args .out .now) _ (c .before .before .before .before .before .before .before .before .args .at) (c .before .before .before .before .before .before .before .before .args .most) (c .before .before .before .before .before .before .before .before .args .n) (c .before .before .before .before .before .before .if1 .left) (c .before .before .before .before .before .if2 .taken) (c .before .before .put-bytes .ensures)
+put-digits-returns-2 t c =
+    digits-last (c .before .before .before .before .before .before .before .before .args .out .now) _ (c .before .before .before .before .before .before .before .before .args .at)
+    (c .before .before .before .before .before .before .before .before .args .most) (c .before .before .before .before .before .before .before .before .args .n)
+    (c .before .before .before .before .before .before .if1 .left) (c .before .before .before .before .before .if2 .taken) (c .before .before .put-bytes .ensures)
 
 put-digits-sub-put-digits : (t : ℕ) → put-digits-lts.Need-sub-put-digits (
   put-bytes-reads.Asked,
@@ -140,7 +143,14 @@ put-digits-returns-3 : (t : ℕ) → put-digits-lts.Need-returns-3 (
   put-digits-below t,
   put-digits.Post,
 ) (put-digits-at t) put-digits.Post
-put-digits-returns-3 t c = digits-more (c .before .before .before .before .before .before .before .before .before .before .before .before .args .out .now) _ _ (c .before .before .before .before .before .before .before .before .before .before .before .before .args .at) _ (c .before .before .before .before .before .before .before .before .before .before .before .before .args .most) (c .before .before .before .before .before .before .before .before .before .before .before .before .args .n) (c .before .before .before .before .before .before .before .before .before .before .if1 .left) (c .before .before .before .before .before .before .before .before .before .if2 .left) (omega arith) (c .before .before .before .before .before .before .before .put-digits .ensures .0) (c .before .before .before .before .before .before .before .put-digits .ensures .1) (c .before .before .put-bytes2 .ensures)
+put-digits-returns-3 t c =
+    digits-more (c .before .before .before .before .before .before .before .before .before .before .before .before .args .out .now) _ _
+    (c .before .before .before .before .before .before .before .before .before .before .before .before .args .at) _
+    (c .before .before .before .before .before .before .before .before .before .before .before .before .args .most)
+    (c .before .before .before .before .before .before .before .before .before .before .before .before .args .n)
+    (c .before .before .before .before .before .before .before .before .before .before .if1 .left) (c .before .before .before .before .before .before .before .before .before .if2 .left)
+    (omega arith) (c .before .before .before .before .before .before .before .put-digits .ensures .0) (c .before .before .before .before .before .before .before .put-digits .ensures .1)
+    (c .before .before .put-bytes2 .ensures)
 
 pub +put-digits-spec : {M : Type 1} → statement M
 +put-digits-spec = close μ-put-digits λ t. put-digits-lts.spec (

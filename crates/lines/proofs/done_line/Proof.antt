@@ -23,7 +23,8 @@ same-length c = search needs
 returns : tie.Need-returns
 unfolding doneLine
 returns c =
-    let a = begun (c .before .before .before .before .before .before .before .before .before .before .before .before .before .before .args .out .now) _ _ _ refl (c .before .before .before .before .before .before .before .before .before .before .put-bytes .ensures) in
+    let a = begun (c .before .before .before .before .before .before .before .before .before .before .before .before .before .before .args .out .now) _ _ _ refl
+    (c .before .before .before .before .before .before .before .before .before .before .put-bytes .ensures) in
     let b = grown a _ _ _ (c .before .before .before .before .before .before .put-number .ensures .0) (c .before .before .before .before .before .before .put-number .ensures .1) in
     let d = grown b _ _ _ (c .before .before .put-number2 .ensures .0) (c .before .before .put-number2 .ensures .1) in
     (d .place, d .is)

@@ -50,7 +50,8 @@ returns c =
     let a = begun (c .before .before .before .before .before .before .before .before .before .before .before .before .before .before .before .before .before .before .before .before .before .before .before .before .before .before .before .before .before .args .out .now) _ _ _ (c .before .before .before .before .before .before .before .before .before .before .before .before .before .before .before .before .before .before .before .before .before .before .put-number .ensures .0) (c .before .before .before .before .before .before .before .before .before .before .before .before .before .before .before .before .before .before .before .before .before .before .put-number .ensures .1) in
     let b = grown a (letterOf (c .before .before .before .before .before .before .before .before .before .before .before .before .before .before .before .before .before .before .before .before .before .before .before .before .before .before .before .before .before .args .c .kind) ∷ 32 ∷ []) _ (c .before .before .before .before .before .before .before .before .before .before .before .before .before .before .before .before .before .before .before .before .before .before .put-number .result + 2) refl
     (letter-put _ _ _ _ _ (c .before .before .before .before .before .before .before .before .before .before .before .before .before .before .before .before .before .before .before .before .before .before .before .before .letter .ensures) (c .before .before .before .before .before .before .before .before .before .before .before .before .before .before .before .before .before .put-bytes .ensures)) in
-    let d = grown b _ _ _ (c .before .before .before .before .before .before .before .before .before .before .before .before .put-number2 .ensures .0) (c .before .before .before .before .before .before .before .before .before .before .before .before .put-number2 .ensures .1) in
+    let d = grown b _ _ _ (c .before .before .before .before .before .before .before .before .before .before .before .before .put-number2 .ensures .0)
+    (c .before .before .before .before .before .before .before .before .before .before .before .before .put-number2 .ensures .1) in
     let e = grown d _ _ _ (c .before .before .before .before .before .before .before .put-number3 .ensures .0) (c .before .before .before .before .before .before .before .put-number3 .ensures .1) in
     let f = grown e _ _ _ (c .before .before .put-number4 .ensures .0) (c .before .before .put-number4 .ensures .1) in
     (f .place, f .is)

@@ -20,7 +20,13 @@ same-length : tie.Need-same-length
 same-length c = search needs
 
 returns : tie.Need-returns
-returns c = number-put (c .before .before .before .before .before .before .before .before .before .before .args .out .now) _ _ (c .before .before .before .before .before .before .before .before .before .before .args .at) _ (c .before .before .before .before .before .before .before .before .before .before .args .n) (c .before .before .before .before .before .before .before .before .before .before .args .then) (omega arith) (c .before .before .before .before .before .before .before .put-digits .ensures .0) (c .before .before .before .before .before .before .before .put-digits .ensures .1) (c .before .before .put-bytes .ensures)
+returns c =
+    number-put (c .before .before .before .before .before .before .before .before .before .before .args .out .now) _ _
+    (c .before .before .before .before .before .before .before .before .before .before .args .at) _
+    (c .before .before .before .before .before .before .before .before .before .before .args .n)
+    (c .before .before .before .before .before .before .before .before .before .before .args .then) (omega arith)
+    (c .before .before .before .before .before .before .before .put-digits .ensures .0) (c .before .before .before .before .before .before .before .put-digits .ensures .1)
+    (c .before .before .put-bytes .ensures)
 
 pub put-number-spec : {M : Type 1} → statement M
 put-number-spec =

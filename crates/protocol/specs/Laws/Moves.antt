@@ -124,7 +124,8 @@ module _ {w : World} (h : Sound w) {s : ℕ} (r : IsServer s) {b : Server} (g : 
     unfolding content
     said k o e = record { held = k; asked = q; shows = its (rw answer-then e); honest = λ _. rw answer-then o }
 
-    pub answer-moves : holds (server w s .keys .0) (x .view .0) ≡ true → Honest w (content (answer s n x)) b → x .entry ≡ b .entry → (kind : ℕ) → Moved w (send (withServer w s b) (answer s n x)) 0 0 kind
+    pub answer-moves : holds (server w s .keys .0) (x .view .0) ≡ true → Honest w (content (answer s n x)) b → x .entry ≡ b .entry → (kind : ℕ)
+        → Moved w (send (withServer w s b) (answer s n x)) 0 0 kind
     unfolding send withServer view client content
     answer-moves k o e kind =
         record {
@@ -165,7 +166,8 @@ pub serving : (a : Server) (m : Message) (member : Bool) (r : Reply) → serve a
 unfolding serve
 serving a m member r e = let (p, e1) = passed _ _ _ _ e in first p (eqb (m .kind) START) refl e1
   where
-    third : within READ START (m .kind) ≡ true → eqb (m .kind) START ≡ false → a .faulty ≡ false → holds (a .keys .0) (a .view .0) ≡ true → (b c : Bool) → eqb (m .kind) READ ≡ b → eqb (m .kind) WRITE ≡ c
+    third : within READ START (m .kind) ≡ true → eqb (m .kind) START ≡ false → a .faulty ≡ false → holds (a .keys .0) (a .view .0) ≡ true → (b c : Bool) → eqb (m .kind) READ ≡ b
+        → eqb (m .kind) WRITE ≡ c
         → if b (read a m) (if c (done (write a (m .entry))) (end a m)) ≡ done r → Serving a m member r
     third p q f h true c x y e = reads (eqb-true _ _ x) h (is-done e)
     third p q f h false true x y e = writes (eqb-true _ _ y) h (is-done e)
@@ -299,7 +301,8 @@ answered {w} h r g n x q k o c a e kind =
     subst (λ (y : After). Lawful w (y .world) (y .completed) 0 kind) (done-is e1)
     (record { sound = answer-sound h r g n x l q; moved = answer-moves h r g n x l q k o c kind })
 
-silent : {w : World} (h : Sound w) {s : ℕ} (r : IsServer s) {b : Server} → Grew w s (server w s) b → (a : After) → moved (withServer w s b) ≡ done a → (kind : ℕ) → Lawful w (a .world) (a .completed) 0 kind
+silent : {w : World} (h : Sound w) {s : ℕ} (r : IsServer s) {b : Server} → Grew w s (server w s) b → (a : After) → moved (withServer w s b) ≡ done a → (kind : ℕ)
+    → Lawful w (a .world) (a .completed) 0 kind
 silent {w} h r g a e kind =
     subst (λ (y : After). Lawful w (y .world) (y .completed) 0 kind) (done-is e) (record { sound = silent-sound h r g; moved = silent-moves h r g kind })
 
@@ -314,7 +317,8 @@ deliver-lawful {w} h s n r a e kind =
     asked : (1 ≤ n) × (n ≤ w .used) → isRequest (message w n .kind) ≡ true → Asked w n
     asked p k = record { low = p .0; below = p .1; is = k }
 
-    go : (1 ≤ n) × (n ≤ w .used) → (y : Reply) → Serving (server w s) (message w n) (member w (message w n .view .0) s) y → answers (y .answer) w s n (y .server) ≡ done a → Lawful w (a .world) (a .completed) 0 kind
+    go : (1 ≤ n) × (n ≤ w .used) → (y : Reply) → Serving (server w s) (message w n) (member w (message w n .view .0) s) y → answers (y .answer) w s n (y .server) ≡ done a
+        → Lawful w (a .world) (a .completed) 0 kind
     go p y (reads k i q) e =
         answered h r (grew-refl (server w s)) n _ (asked p (rw k refl)) i
         (record { home = refl; current = refl; write = λ z. apart READ WRITE refl (sym k ∙ z); ended = λ z. apart READ END refl (sym k ∙ z) })

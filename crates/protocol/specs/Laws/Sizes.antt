@@ -69,12 +69,13 @@ pub covered : (v : View) → oneExchange v ≡ true → writeSize v ≤ readSize
 unfolding oneExchange
 covered v e = leb-true _ _ e
 
--- what every permitted r means for both sizes: they share n+f+1 answers, reads have no more than writes, more than 2f and at most n
+-- what every permitted r means for both sizes: they share n+f+1 answers, reads have no more than writes and more than 2f, and f servers
+-- that are silent stop neither
 pub record Sized (n f reads writes : ℕ) : Type 0 where
   pub meet : n + f + 1 ≤ reads + writes
   pub order : reads ≤ writes
   pub low : 2 * f + 1 ≤ reads
-  pub high : writes ≤ n
+  pub high : writes + f ≤ n
 
 -- by cases on 0 alone
 pub two-sizes : (n f r : ℕ) → sizeRule n f r ≡ true → Sized n f (readOf n f r) (writeOf n f r)
@@ -92,14 +93,14 @@ two-sizes n f r e = go (eqb r 0) (and-right (leb (3 * f + 1) n) _ (and-right (le
         let b : 2 * r ≤ n + f + 1 = leb-true _ _ (and-right (leb (2 * f + 1) r) _ p) in
         record { meet = omega arith; order = omega arith; low = a; high = omega arith }
 
--- what the sizes of a view that obeys the rule promise: with `covered` all that the proofs use of them
+-- what the sizes of a view that obeys the rule promise: with `covered` all that the proofs use of them, and that f silent servers stop
+-- nobody
 pub record Sizes (v : View) : Type 0 where
   pub meet : size v + v .f + 1 ≤ readSize v + writeSize v
   pub twice : size v + v .f + 1 ≤ writeSize v + writeSize v
   pub readOne : v .f + 1 ≤ readSize v
   pub writeOne : v .f + 1 ≤ writeSize v
-  pub readMost : readSize v ≤ size v
-  pub writeMost : writeSize v ≤ size v
+  pub spared : writeSize v + v .f ≤ size v
 
 pub sizes : (v : View) → sized v ≡ true → Sizes v
 unfolding sized readSize writeSize
@@ -109,4 +110,4 @@ sizes v e =
     let o = s .order in
     let l = s .low in
     let h = s .high in
-    record { meet = m; twice = omega arith; readOne = omega arith; writeOne = omega arith; readMost = omega arith; writeMost = h }
+    record { meet = m; twice = omega arith; readOne = omega arith; writeOne = omega arith; spared = h }

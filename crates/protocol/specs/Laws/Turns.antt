@@ -407,7 +407,14 @@ module _ {w : World} (h : Sound w) {k r t : ℕ} (y : Taking w k r t) where
               subst (λ (z : After). Lawful w (z .world) (z .completed) 0 kind) (done-is (rw (ap (λ (z : Close). z .complete) d) at e))
               (exchanged-lawful i (x .client) r (p ∙ ap Reading (as-number o)) (eqb-true _ _ (and-left _ _ b)) (ap (λ (z : Close). z .client .phase) d) (ap (λ (z : Close). z .client .given) d)
               (subst (Agreed w r) (sym (ap (λ (z : Close). z .client .entry) d))
-              (record { tag = t; votes = close-agreed y _ en (and-left _ _ once?); covers = covered (view w t) (and-right (agreed w t (takenWith w k)) _ once?); chosen = close-chosen y; other = ne })) kind)
+              (record {
+                tag = t;
+                votes = close-agreed y _ en (and-left _ _ once?);
+                covers = covered (view w t)
+                    (and-right (agreed w t (takenWith w k)) _ once?);
+                chosen = close-chosen y;
+                other = ne;
+              })) kind)
 
           either : (b : Bool) → (once (client w c) (atOnce w t (takenWith w k))) ≡ b
               → if b (done (completeWith (client w c) e′)) (writeNext (client w c) c e′ (nextNumber w)) ≡ done x
@@ -450,14 +457,16 @@ module _ {w : World} (h : Sound w) {k r t : ℕ} (y : Taking w k r t) where
       ends z o true b e = starts-lawful z o (eqb-true _ _ (and-left _ _ b)) (and-right (eqb t (newest w)) _ b) a e kind
       ends z o false b e = stays e
 
-      closing : (message w r .kind ≡ END → ⊥) → requestOf (client w (message w r .sender) .phase) ≡ r → (b : Bool) → enough w t (takenWith w k) (closeSize (client w (message w r .sender) .phase) (view w t)) ≡ b
+      closing : (message w r .kind ≡ END → ⊥) → requestOf (client w (message w r .sender) .phase) ≡ r → (b : Bool)
+          → enough w t (takenWith w k) (closeSize (client w (message w r .sender) .phase) (view w t)) ≡ b
           → if b (closes w k (message w r .sender) (chosen (shown w t (takenWith w k))) (atOnce w t (takenWith w k))) (moved (link w k)) ≡ done a → Lawful w (a .world) (a .completed) 0 kind
       closing n o true b e = closes-lawful (message w r .sender) n o b a e kind
       closing n o false b e = stays e
 
       go : (b : Bool) → eqb (message w r .kind) END ≡ b → if b (eqb (endOf (w .administrator .ending)) r) (eqb (requestOf (client w (message w r .sender) .phase)) r) ≡ true
           → if b (if (eqb t (newest w) && enough w t (takenWith w k) (writeSize (view w t))) (starts w k (chosen (shown w t (takenWith w k)))) (moved (link w k)))
-          (if (enough w t (takenWith w k) (closeSize (client w (message w r .sender) .phase) (view w t))) (closes w k (message w r .sender) (chosen (shown w t (takenWith w k))) (atOnce w t (takenWith w k))) (moved (link w k))) ≡ done a
+          (if (enough w t (takenWith w k) (closeSize (client w (message w r .sender) .phase) (view w t)))
+          (closes w k (message w r .sender) (chosen (shown w t (takenWith w k))) (atOnce w t (takenWith w k))) (moved (link w k))) ≡ done a
           → Lawful w (a .world) (a .completed) 0 kind
       go true b o e = ends (eqb-true _ _ b) (eqb-true _ _ o) _ refl e
       go false b o e = closing (eqb-false _ _ b) (eqb-true _ _ o) _ refl e

@@ -12,9 +12,7 @@ entry-fits-requires c κs = search needs
 
 returns : tie.Need-returns
 unfolding clientRange
-returns c =
-    let a = c .before .before .args .a in
-    rw (lt-ltb (a .given .0) (2 ^ 32) (search needs), and-true) (c .entry-fits .ensures)
+returns c = search (lt-ltb, and-true, needs) depth 7 fits 4000
 
 pub client-range-spec : {M : Type 1} → statement M
 client-range-spec = tie.close (tie.spec entry-fits-requires returns)

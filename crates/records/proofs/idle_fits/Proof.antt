@@ -7,13 +7,13 @@ returns : tie.Need-returns
 returns c = simp (lt-leb _ _ (c .if1 .taken))
 
 returns-2 : tie.Need-returns-2
-returns-2 c = simp (ne-eqb _ _ (c .if2 .taken), le-leb _ _ (c .before .before .if1 .left))
+returns-2 c = search (ne-eqb, le-leb, needs) depth 7 fits 4000
 
 is-empty-requires : tie.Need-is-empty-requires
 is-empty-requires c κs = search needs
 
 returns-3 : tie.Need-returns-3
-returns-3 c = simp (eq-eqb _ _ (c .before .if2 .left), le-leb _ _ (c .before .before .before .if1 .left)) (c .is-empty .ensures)
+returns-3 c = search (eq-eqb, le-leb, needs) depth 7 fits 4000
 
 pub idle-fits-spec : {M : Type 1} → statement M
 idle-fits-spec = tie.close (tie.spec returns returns-2 is-empty-requires returns-3)

@@ -1,3 +1,4 @@
+use Rattle.protocol.specs.Laws.Tests.{passed-test, is-true}
 use mathlib.Core.Path.{sym, _∙_}
 use borrow.Author.Tests.{not-true, not-false}
 use borrow.Author.Needs.{needs}
@@ -18,7 +19,7 @@ asking-fits-requires : tie.Need-asking-fits-requires
 asking-fits-requires c κs = search needs
 
 returns-3 : tie.Need-returns-3
-returns-3 c = pass (sym (c .before .before .before .kind-fits .ensures) ∙ not-false _ (c .before .before .if1 .left)) (pass (not-false (c .before .before .before .before .args .sent) (c .before .if2 .left)) (c .asking-fits .ensures))
+returns-3 c = search (pass, passed-test, is-true, needs) depth 7 fits 4000
 
 pub reading-fits-spec : {M : Type 1} → statement M
 reading-fits-spec =

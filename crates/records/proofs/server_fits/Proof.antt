@@ -1,3 +1,6 @@
+use Rattle.records.specs.Rows.{fail}
+use Rattle.protocol.specs.Laws.Tests.{passed-test, failed-test}
+use Rattle.protocol.specs.Tools.{pass}
 use mathlib.Core.Path.{sym, _∙_}
 use borrow.Author.Tests.{le-leb, lt-leb, not-true, not-false}
 use borrow.Author.Needs.{needs}
@@ -11,19 +14,19 @@ keys-within-requires : tie.Need-keys-within-requires
 keys-within-requires c κs = search needs
 
 returns-2 : tie.Need-returns-2
-returns-2 c = simp (sym (c .before .keys-within .ensures) ∙ not-true _ (c .if2 .taken), le-leb _ _ (c .before .before .if1 .left))
+returns-2 c = search (pass, fail, le-leb, passed-test, failed-test, needs) depth 9 fits 4000
 
 key-fits-requires : tie.Need-key-fits-requires
 key-fits-requires c κs = search needs
 
 returns-3 : tie.Need-returns-3
-returns-3 c = simp (sym (c .before .key-fits .ensures) ∙ not-true _ (c .if3 .taken), sym (c .before .before .before .keys-within .ensures) ∙ not-false _ (c .before .before .if2 .left), le-leb _ _ (c .before .before .before .before .if1 .left))
+returns-3 c = search (pass, fail, le-leb, passed-test, failed-test, needs) depth 9 fits 4000
 
 entry-fits-requires : tie.Need-entry-fits-requires
 entry-fits-requires c κs = search needs
 
 returns-4 : tie.Need-returns-4
-returns-4 c = simp (sym (c .before .before .key-fits .ensures) ∙ not-false _ (c .before .if3 .left), sym (c .before .before .before .before .keys-within .ensures) ∙ not-false _ (c .before .before .before .if2 .left), le-leb _ _ (c .before .before .before .before .before .if1 .left)) (c .entry-fits .ensures)
+returns-4 c = search (pass, fail, le-leb, passed-test, failed-test, needs) depth 9 fits 4000
 
 pub server-fits-spec : {M : Type 1} → statement M
 server-fits-spec =

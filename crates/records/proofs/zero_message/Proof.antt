@@ -10,11 +10,11 @@ returns c = simp (ne-eqb _ _ (c .if1 .taken))
 
 returns-2 : tie.Need-returns-2
 unfolding zeroMessage
-returns-2 c = simp (ne-eqb _ _ (c .if2 .taken), eq-eqb _ _ (c .before .before .if1 .left))
+returns-2 c = search (ne-eqb, eq-eqb, needs) depth 7 fits 4000
 
 returns-3 : tie.Need-returns-3
 unfolding zeroMessage
-returns-3 c = simp (ne-eqb _ _ (c .if3 .taken), eq-eqb _ _ (c .before .before .if2 .left), eq-eqb _ _ (c .before .before .before .before .if1 .left))
+returns-3 c = search (ne-eqb, eq-eqb, needs) depth 7 fits 4000
 
 returns-4 : tie.Need-returns-4
 unfolding zeroMessage
@@ -22,18 +22,41 @@ returns-4 c = simp (c .if4 .taken, eq-eqb _ _ (c .before .if3 .left), eq-eqb _ _
 
 returns-5 : tie.Need-returns-5
 unfolding zeroMessage
-returns-5 c = simp (ne-eqb _ _ (c .if5 .taken), c .before .before .if4 .left, eq-eqb _ _ (c .before .before .before .if3 .left), eq-eqb _ _ (c .before .before .before .before .before .if2 .left), eq-eqb _ _ (c .before .before .before .before .before .before .before .if1 .left))
+returns-5 c =
+    simp (
+      ne-eqb _ _ (c .if5 .taken),
+      c .before .before .if4 .left,
+      eq-eqb _ _ (c .before .before .before .if3 .left),
+      eq-eqb _ _ (c .before .before .before .before .before .if2 .left),
+      eq-eqb _ _ (c .before .before .before .before .before .before .before .if1 .left),
+    )
 
 returns-6 : tie.Need-returns-6
 unfolding zeroMessage
-returns-6 c = simp (ne-eqb _ _ (c .if6 .taken), eq-eqb _ _ (c .before .before .if5 .left), c .before .before .before .before .if4 .left, eq-eqb _ _ (c .before .before .before .before .before .if3 .left), eq-eqb _ _ (c .before .before .before .before .before .before .before .if2 .left), eq-eqb _ _ (c .before .before .before .before .before .before .before .before .before .if1 .left))
+returns-6 c =
+    simp (
+      ne-eqb _ _ (c .if6 .taken),
+      eq-eqb _ _ (c .before .before .if5 .left),
+      c .before .before .before .before .if4 .left,
+      eq-eqb _ _ (c .before .before .before .before .before .if3 .left),
+      eq-eqb _ _ (c .before .before .before .before .before .before .before .if2 .left),
+      eq-eqb _ _ (c .before .before .before .before .before .before .before .before .before .if1 .left),
+    )
 
 is-empty-requires : tie.Need-is-empty-requires
 is-empty-requires c κs = search needs
 
 returns-7 : tie.Need-returns-7
 unfolding zeroMessage
-returns-7 c = simp (eq-eqb _ _ (c .before .if6 .left), eq-eqb _ _ (c .before .before .before .if5 .left), c .before .before .before .before .before .if4 .left, eq-eqb _ _ (c .before .before .before .before .before .before .if3 .left), eq-eqb _ _ (c .before .before .before .before .before .before .before .before .if2 .left), eq-eqb _ _ (c .before .before .before .before .before .before .before .before .before .before .if1 .left)) (c .is-empty .ensures)
+returns-7 c =
+    simp (
+      eq-eqb _ _ (c .before .if6 .left),
+      eq-eqb _ _ (c .before .before .before .if5 .left),
+      c .before .before .before .before .before .if4 .left,
+      eq-eqb _ _ (c .before .before .before .before .before .before .if3 .left),
+      eq-eqb _ _ (c .before .before .before .before .before .before .before .before .if2 .left),
+      eq-eqb _ _ (c .before .before .before .before .before .before .before .before .before .before .if1 .left),
+    ) (c .is-empty .ensures)
 
 pub zero-message-spec : {M : Type 1} → statement M
 zero-message-spec =

@@ -12,11 +12,7 @@ returns c = simp (lt-leb _ _ (c .if1 .taken))
 
 returns-2 : tie.Need-returns-2
 unfolding mayAnswer guard
-returns-2 c =
-    simp (
-      lt-leb _ _ (c .if2 .taken),
-      le-leb _ _ (c .before .if1 .left),
-    )
+returns-2 c = search (lt-leb, le-leb, needs) depth 7 fits 4000
 
 returns-3 : tie.Need-returns-3
 unfolding mayAnswer guard

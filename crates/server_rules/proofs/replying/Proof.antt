@@ -9,7 +9,7 @@ write-requires c κs = search needs
 
 returns : tie.Need-returns
 unfolding replying
-returns c = simp (c .write .ensures, eq-eqb _ _ (c .before .if1 .taken))
+returns c = search (eq-eqb, needs) depth 7 fits 4000
 
 shown-by-requires : tie.Need-shown-by-requires
 shown-by-requires c κs = search needs

@@ -1,3 +1,4 @@
+use borrow.Author.Needs.{needs}
 use borrow.Author.Tests.{eq-eqb, ne-eqb}
 use Rattle.protocol.specs.Tools.{guard}
 use Rattle.server_rules.proofs.request_refuses.Statement.{statement}
@@ -9,15 +10,15 @@ returns c = simp (eq-eqb _ _ (c .if1 .taken))
 
 returns-2 : tie.Need-returns-2
 unfolding guard
-returns-2 c = simp (eq-eqb _ _ (c .if2 .taken), ne-eqb _ _ (c .before .if1 .left))
+returns-2 c = search (eq-eqb, ne-eqb, needs) depth 7 fits 4000
 
 returns-3 : tie.Need-returns-3
 unfolding guard
-returns-3 c = simp (ne-eqb _ _ (c .if3 .taken), ne-eqb _ _ (c .before .before .before .if2 .left), ne-eqb _ _ (c .before .before .before .before .if1 .left))
+returns-3 c = search (ne-eqb, needs) depth 7 fits 4000
 
 returns-4 : tie.Need-returns-4
 unfolding guard
-returns-4 c = simp (eq-eqb _ _ (c .if3 .left), ne-eqb _ _ (c .before .before .before .if2 .left), ne-eqb _ _ (c .before .before .before .before .if1 .left))
+returns-4 c = search (eq-eqb, ne-eqb, needs) depth 7 fits 4000
 
 pub request-refuses-spec : {M : Type 1} → statement M
 request-refuses-spec = tie.close (tie.spec returns returns-2 returns-3 returns-4)

@@ -21,7 +21,13 @@ replying-requires : tie.Need-replying-requires
 replying-requires c κs = search needs
 
 returns-3 : tie.Need-returns-3
-returns-3 c = simp (serve-done _ _ _ (sym (c .before .before .before .before .before .before .refuses .ensures) ∙ c .before .before .before .before .before .if1 .left), ne-eqb _ _ (c .before .before .before .if2 .left), ← c .before .before .replying .ensures)
+returns-3 c =
+    simp (
+      serve-done _ _ _ (sym (c .before .before .before .before .before .before .refuses .ensures)
+          ∙ c .before .before .before .before .before .if1 .left),
+      ne-eqb _ _ (c .before .before .before .if2 .left),
+      ← c .before .before .replying .ensures,
+    )
 
 pub serve-spec : {M : Type 1} → statement M
 serve-spec = tie.close (tie.spec refuses-requires returns entering-requires returns-2 replying-requires returns-3)

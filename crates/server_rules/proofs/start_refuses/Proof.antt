@@ -18,11 +18,27 @@ has-key-requires c κs = search needs
 
 returns-3 : tie.Need-returns-3
 unfolding guard
-returns-3 c = simp (sym (c .before .has-key .ensures) ∙ c .if4 .taken, c .before .before .before .if3 .taken, lt-ltb _ _ (c .before .before .before .before .if2 .left), not-false (c .before .before .before .before .before .before .before .before .before .before .args .member) (c .before .before .before .before .before .before .before .if1 .left))
+returns-3 c =
+    simp (
+      sym (c .before .has-key .ensures) ∙ c .if4 .taken,
+      c .before .before .before .if3 .taken,
+      lt-ltb _ _ (c .before .before .before .before .if2 .left),
+      not-false
+          (c .before .before .before .before .before .before .before .before .before .before .args .member)
+          (c .before .before .before .before .before .before .before .if1 .left),
+    )
 
 returns-4 : tie.Need-returns-4
 unfolding guard
-returns-4 c = simp (sym (c .before .has-key .ensures) ∙ c .if4 .left, c .before .before .before .if3 .taken, lt-ltb _ _ (c .before .before .before .before .if2 .left), not-false (c .before .before .before .before .before .before .before .before .before .before .args .member) (c .before .before .before .before .before .before .before .if1 .left))
+returns-4 c =
+    simp (
+      sym (c .before .has-key .ensures) ∙ c .if4 .left,
+      c .before .before .before .if3 .taken,
+      lt-ltb _ _ (c .before .before .before .before .if2 .left),
+      not-false
+          (c .before .before .before .before .before .before .before .before .before .before .args .member)
+          (c .before .before .before .before .before .before .before .if1 .left),
+    )
 
 returns-5 : tie.Need-returns-5
 unfolding guard

@@ -20,7 +20,11 @@ same-length : tie.Need-same-length
 same-length c = search needs
 
 returns-3 : tie.Need-returns-3
-returns-3 c = line-some (c .before .before .before .before .before .before .before .before .before .args .image .now) (c .before .before .before .before .before .before .before .before .before .args .out .now) _ (c .before .before .before .before .before .before .before .before .before .args .c) _ _ (c .before .before .before .before .before .before .if1 .left) (c .before .before .before .before .before .if2 .left) (c .before .before .before .before .load-client .ensures) (c .before .before .operation-line .ensures .0) (c .before .before .operation-line .ensures .1)
+returns-3 c =
+    line-some (c .before .before .before .before .before .before .before .before .before .args .image .now)
+    (c .before .before .before .before .before .before .before .before .before .args .out .now) _ (c .before .before .before .before .before .before .before .before .before .args .c) _ _
+    (c .before .before .before .before .before .before .if1 .left) (c .before .before .before .before .before .if2 .left) (c .before .before .before .before .load-client .ensures)
+    (c .before .before .operation-line .ensures .0) (c .before .before .operation-line .ensures .1)
 
 pub completed-spec : {M : Type 1} → statement M
 completed-spec = tie.close (tie.spec returns returns-2 load-client-requires operation-line-requires same-length returns-3)

@@ -1,6 +1,7 @@
+use Rattle.protocol.specs.Laws.Tests.{passed-test, is-true}
 use mathlib.Core.Path.{sym, _∙_}
 use borrow.Author.Needs.{needs}
-use borrow.Author.Tests.{not-true, not-false}
+use borrow.Author.Tests.{not-true}
 use Rattle.protocol.specs.Tools.{pass}
 use Rattle.checked.specs.Ranges.{administratorInRange}
 use Rattle.checked.proofs.ranges.administrator_in_range.Statement.{statement}
@@ -18,7 +19,7 @@ ending-in-range-requires c κs = search needs
 
 returns-2 : tie.Need-returns-2
 unfolding administratorInRange
-returns-2 c = pass (sym (c .before .before .view-within .ensures) ∙ not-false _ (c .before .if1 .left)) (c .ending-in-range .ensures)
+returns-2 c = search (pass, passed-test, is-true, needs) depth 7 fits 4000
 
 pub administrator-in-range-spec : {M : Type 1} → statement M
 administrator-in-range-spec =

@@ -13,11 +13,7 @@ number-fits-requires c κs = search needs
 
 returns-2 : tie.Need-returns-2
 unfolding endFits
-returns-2 c =
-    simp (
-      c .number-fits .ensures,
-      lt-ltb _ _ (c .before .if1 .left),
-    )
+returns-2 c = search (lt-ltb, needs) depth 7 fits 4000
 
 pub end-fits-spec : {M : Type 1} → statement M
 end-fits-spec = tie.close (tie.spec returns number-fits-requires returns-2)

@@ -7,10 +7,10 @@ returns : tie.Need-returns
 returns c = rw (ne-eqb _ _ (c .if1 .taken))
 
 returns-2 : tie.Need-returns-2
-returns-2 c = rw (eq-eqb _ _ (c .before .before .if1 .left), ne-eqb _ _ (c .if2 .taken))
+returns-2 c = search (eq-eqb, ne-eqb, needs) depth 7 fits 4000
 
 returns-3 : tie.Need-returns-3
-returns-3 c = rw (eq-eqb _ _ (c .before .before .before .if1 .left), eq-eqb _ _ (c .before .if2 .left))
+returns-3 c = search (eq-eqb, needs) depth 7 fits 4000
 
 pub bare-fits-spec : {M : Type 1} → statement M
 bare-fits-spec = tie.close (tie.spec returns returns-2 returns-3)

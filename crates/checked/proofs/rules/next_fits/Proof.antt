@@ -1,6 +1,6 @@
 use mathlib.Core.Path.{sym, _∙_}
 use borrow.Author.Needs.{needs}
-use borrow.Author.Tests.{not-true, not-false}
+use borrow.Author.Tests.{not-false}
 use Rattle.checked.proofs.rules.next_fits.Statement.{statement}
 use Rattle.checked.proofs.rules.next_fits.Tie as tie
 
@@ -8,7 +8,7 @@ is-reading-requires : tie.Need-is-reading-requires
 is-reading-requires c κs = search needs
 
 returns : tie.Need-returns
-returns c = simp (sym (c .before .is-reading .ensures) ∙ not-true _ (c .if1 .taken))
+returns c = search needs depth 7 fits 4000
 
 once-requires : tie.Need-once-requires
 once-requires c κs = search needs

@@ -26,7 +26,13 @@ untagged-zero-requires c κs = search needs
 
 returns-2 : tie.Need-returns-2
 unfolding clientPlain
-returns-2 c = rw (le-leb _ _ (c .before .before .before .before .if1 .left), sym (c .before .untagged-zero .ensures ∙ ap (untagged (getD (c .before .before .before .before .before .before .before .args .b .now) phasePlace 0)) (c .before .before .before .get16 .ensures)) ∙ not-true _ (c .if2 .taken))
+returns-2 c =
+    rw (
+      le-leb _ _ (c .before .before .before .before .if1 .left),
+      sym
+          (c .before .untagged-zero .ensures ∙ ap (untagged (getD (c .before .before .before .before .before .before .before .args .b .now) phasePlace 0))
+          (c .before .before .before .get16 .ensures)) ∙ not-true _ (c .if2 .taken),
+    )
 
 add-entry-plain : tie.Need-add-entry-plain
 add-entry-plain c = search needs
@@ -45,7 +51,13 @@ entry-plain-requires c κs = search needs
 
 returns-3 : tie.Need-returns-3
 unfolding clientPlain part
-returns-3 c = rw (le-leb _ _ (c .before .before .before .before .before .before .if1 .left), sym (c .before .before .before .untagged-zero .ensures ∙ ap (untagged (getD (c .before .before .before .before .before .before .before .before .before .args .b .now) phasePlace 0)) (c .before .before .before .before .before .get16 .ensures)) ∙ not-false _ (c .before .before .if2 .left)) (c .entry-plain .ensures)
+returns-3 c =
+    rw (
+      le-leb _ _ (c .before .before .before .before .before .before .if1 .left),
+      sym
+          (c .before .before .before .untagged-zero .ensures ∙ ap (untagged (getD (c .before .before .before .before .before .before .before .before .before .args .b .now) phasePlace 0))
+          (c .before .before .before .before .before .get16 .ensures)) ∙ not-false _ (c .before .before .if2 .left),
+    ) (c .entry-plain .ensures)
 
 pub client-plain-spec : {M : Type 1} → statement M
 client-plain-spec =

@@ -30,14 +30,20 @@ administrator-plain-requires c κs = search needs
 
 returns-2 : tie.Need-returns-2
 unfolding headerPlain part
-returns-2 c = rw (eq-eqb _ _ (sym (c .before .before .before .before .get16 .ensures) ∙ c .before .before .before .if1 .left), sym (c .before .administrator-plain .ensures) ∙ not-true _ (c .if2 .taken))
+returns-2 c =
+    rw (eq-eqb _ _ (sym (c .before .before .before .before .get16 .ensures) ∙ c .before .before .before .if1 .left), sym (c .before .administrator-plain .ensures) ∙ not-true _ (c .if2 .taken))
 
 are-zero-requires : tie.Need-are-zero-requires
 are-zero-requires c κs = search needs
 
 returns-3 : tie.Need-returns-3
 unfolding headerPlain part
-returns-3 c = rw (eq-eqb _ _ (sym (c .before .before .before .before .before .get16 .ensures) ∙ c .before .before .before .before .if1 .left), sym (c .before .before .administrator-plain .ensures) ∙ not-false _ (c .before .if2 .left)) (c .are-zero .ensures)
+returns-3 c =
+    rw (
+      eq-eqb _ _ (sym (c .before .before .before .before .before .get16 .ensures) ∙ c .before .before .before .before .if1 .left),
+      sym (c .before .before .administrator-plain .ensures)
+          ∙ not-false _ (c .before .if2 .left),
+    ) (c .are-zero .ensures)
 
 pub header-plain-spec : {M : Type 1} → statement M
 header-plain-spec =

@@ -36,7 +36,8 @@ shared-slice-read-t7 c = search needs
 
 returns : tie.Need-returns
 unfolding clientOf part
-returns c = rw (c .before .get32 .ensures, c .before .before .read-entry .ensures, c .before .before .before .before .phase-of .ensures, c .before .before .before .before .before .before .get16 .ensures)
+returns c =
+    rw (c .before .get32 .ensures, c .before .before .read-entry .ensures, c .before .before .before .before .phase-of .ensures, c .before .before .before .before .before .before .get16 .ensures)
 
 pub read-client-spec : {M : Type 1} → statement M
 read-client-spec =

@@ -37,9 +37,14 @@ returns : tie.Need-returns
 unfolding administratorBytes
 returns c =
     let a = c .before .before .before .before .before .before .before .before .before .before .before .before .before .before .before .before .args in
-    rw (sym (c .before .before .before .before .before .before .before .ending-tag .ensures), sym (c .before .before .before .before .before .before .before .before .before .before .before .before .before .ending-number .ensures))
+    rw (
+      sym (c .before .before .before .before .before .before .before .ending-tag .ensures),
+      sym
+          (c .before .before .before .before .before .before .before .before .before .before .before .before .before .ending-number .ensures),
+    )
     (wrote _ _
-    (wrote _ _ (wrote _ _ (wrote-none (a .image .now) (a .at) (omega arith)) (c .before .before .before .before .before .before .before .before .before .before .before .put8 .ensures) refl) (c .before .before .before .before .before .before .put82 .ensures) refl)
+    (wrote _ _ (wrote _ _ (wrote-none (a .image .now) (a .at) (omega arith)) (c .before .before .before .before .before .before .before .before .before .before .before .put8 .ensures) refl)
+    (c .before .before .before .before .before .before .put82 .ensures) refl)
     (c .before .before .put16 .ensures) refl
     .all)
 

@@ -50,7 +50,11 @@ unfolding clientBytes entryBytes
 returns c =
     let a = c .before .before .before .before .before .before .before .before .before .before .before .before .before .before .before .before .before .before .before .before .before .before .before .before .before .args in
     rw (sym (c .before .before .before .before .before .before .before .before .before .before .before .before .before .before .before .before .before .before .before .phase-tag .ensures), sym (c .before .before .before .before .before .before .before .before .before .before .before .before .before .before .before .before .before .before .before .before .before .phase-request .ensures))
-    (wrote _ _ (wrote _ _ (wrote _ _ (wrote _ _ (wrote _ _ (wrote-none (a .image .now) (a .at) (omega arith)) (c .before .before .before .before .before .before .before .before .before .before .before .before .before .before .before .before .before .before .put8 .ensures) refl) (c .before .before .before .before .before .before .before .before .before .before .before .before .before .before .put82 .ensures) refl) (c .before .before .before .before .before .before .before .before .before .before .put16 .ensures) refl) (c .before .before .before .before .before .before .write-entry .ensures) refl) (c .before .before .put32 .ensures) refl .all)
+    (wrote _ _ (wrote _ _ (wrote _ _ (wrote _ _ (wrote _ _ (wrote-none (a .image .now) (a .at) (omega arith))
+    (c .before .before .before .before .before .before .before .before .before .before .before .before .before .before .before .before .before .before .put8 .ensures) refl)
+    (c .before .before .before .before .before .before .before .before .before .before .before .before .before .before .put82 .ensures) refl)
+    (c .before .before .before .before .before .before .before .before .before .before .put16 .ensures) refl) (c .before .before .before .before .before .before .write-entry .ensures) refl)
+    (c .before .before .put32 .ensures) refl .all)
 
 pub write-client-spec : {M : Type 1} → statement M
 write-client-spec =

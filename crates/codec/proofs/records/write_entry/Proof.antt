@@ -43,7 +43,11 @@ returns : tie.Need-returns
 unfolding entryBytes
 returns c =
     let a = c .before .before .before .before .before .before .before .before .before .before .before .before .before .before .before .before .before .before .before .before .before .before .before .args in
-    (wrote _ _ (wrote _ _ (wrote _ _ (wrote _ _ (wrote _ _ (wrote-none (a .image .now) (a .at) (omega arith)) (c .before .before .before .before .before .before .before .before .before .before .before .before .before .before .before .before .before .before .put32 .ensures) refl) (c .before .before .before .before .before .before .before .before .before .before .before .before .before .before .put8 .ensures) refl) (c .before .before .before .before .before .before .before .before .before .before .put-zeros .ensures) refl) (c .before .before .before .before .before .before .put322 .ensures) refl) (c .before .before .put-zeros2 .ensures) refl .all)
+    (wrote _ _ (wrote _ _ (wrote _ _ (wrote _ _ (wrote _ _ (wrote-none (a .image .now) (a .at) (omega arith))
+    (c .before .before .before .before .before .before .before .before .before .before .before .before .before .before .before .before .before .before .put32 .ensures) refl)
+    (c .before .before .before .before .before .before .before .before .before .before .before .before .before .before .put8 .ensures) refl)
+    (c .before .before .before .before .before .before .before .before .before .before .put-zeros .ensures) refl) (c .before .before .before .before .before .before .put322 .ensures) refl)
+    (c .before .before .put-zeros2 .ensures) refl .all)
 
 pub write-entry-spec : {M : Type 1} → statement M
 write-entry-spec =

@@ -46,7 +46,11 @@ returns : tie.Need-returns
 unfolding serverBytes
 returns c =
     let a = c .before .before .before .before .before .before .before .before .before .before .before .before .before .before .before .before .before .before .before .before .before .before .before .before .before .args in
-    (wrote _ _ (wrote _ _ (wrote _ _ (wrote _ _ (wrote _ _ (wrote-none (a .image .now) (a .at) (omega arith)) (c .before .before .before .before .before .before .before .before .before .before .before .before .before .before .before .before .before .before .before .put8 .ensures) refl) (c .before .before .before .before .before .before .before .before .before .before .before .before .before .before .put82 .ensures) refl) (c .before .before .before .before .before .before .before .before .before .before .put-zeros .ensures) refl) (c .before .before .before .before .before .before .put32 .ensures) refl) (c .before .before .write-entry .ensures) refl .all)
+    (wrote _ _ (wrote _ _ (wrote _ _ (wrote _ _ (wrote _ _ (wrote-none (a .image .now) (a .at) (omega arith))
+    (c .before .before .before .before .before .before .before .before .before .before .before .before .before .before .before .before .before .before .before .put8 .ensures) refl)
+    (c .before .before .before .before .before .before .before .before .before .before .before .before .before .before .put82 .ensures) refl)
+    (c .before .before .before .before .before .before .before .before .before .before .put-zeros .ensures) refl) (c .before .before .before .before .before .before .put32 .ensures) refl)
+    (c .before .before .write-entry .ensures) refl .all)
 
 pub write-server-spec : {M : Type 1} → statement M
 write-server-spec =

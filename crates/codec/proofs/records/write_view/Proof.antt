@@ -37,7 +37,10 @@ returns : tie.Need-returns
 unfolding viewBytes
 returns c =
     let a = c .before .before .before .before .before .before .before .before .before .before .before .before .before .before .before .before .before .before .args in
-    (wrote _ _ (wrote _ _ (wrote _ _ (wrote _ _ (wrote-none (a .image .now) (a .at) (omega arith)) (c .before .before .before .before .before .before .before .before .before .before .before .before .before .before .put32 .ensures) refl) (c .before .before .before .before .before .before .before .before .before .before .put8 .ensures) refl) (c .before .before .before .before .before .before .put82 .ensures) refl) (c .before .before .put-zeros .ensures) refl .all)
+    (wrote _ _ (wrote _ _ (wrote _ _ (wrote _ _ (wrote-none (a .image .now) (a .at) (omega arith))
+    (c .before .before .before .before .before .before .before .before .before .before .before .before .before .before .put32 .ensures) refl)
+    (c .before .before .before .before .before .before .before .before .before .before .put8 .ensures) refl) (c .before .before .before .before .before .before .put82 .ensures) refl)
+    (c .before .before .put-zeros .ensures) refl .all)
 
 pub write-view-spec : {M : Type 1} → statement M
 write-view-spec =

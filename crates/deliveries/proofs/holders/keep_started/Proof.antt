@@ -1,3 +1,4 @@
+use Rattle.protocol.specs.Laws.Tests.{failed-test}
 use mathlib.Core.Path.{ap, sym, _∙_}
 use mathlib.Core.List.{List}
 use Prim.Native.Nat.{ℕ}
@@ -17,10 +18,7 @@ same-length : tie.Need-same-length
 same-length c = search needs
 
 returns : tie.Need-returns
-returns c =
-    let a = c .before .before .before .before .before .before .before .args in
-    c .before .before .store-server .ensures
-    ∙ ap (λ (i : List ℕ). putServer i (a .s .0) (a .b)) (sym (gained-none (a .image .now) (a .b) (a .t .0) (not-true _ (c .before .before .before .before .if1 .taken))))
+returns c = search (gained-none, failed-test, needs) depth 7 fits 4000
 
 key-of-requires : tie.Need-key-of-requires
 key-of-requires c κs = search needs

@@ -39,7 +39,10 @@ add-store-holders-2 c =
     let l = c .before .before .before .before .before .loop in
     let d = c .before .before .before .before .before .before .before in
     let low = raised-low (d .pre) (d .args .keys .0) (l .k) (l .inv .0) (c .before .before .before .before .loop-test .taken) in
-    record { fits = raise-fits (c .before .load-holders .result) (c .before .before .before .has-key .result) (omega (arith, low, c .before .load-holders .ensures, ap (λ (i : List ℕ). holderAt i (l .k + 1)) (l .inv .1))) }
+    record {
+      fits = raise-fits (c .before .load-holders .result) (c .before .before .before .has-key .result)
+          (omega (arith, low, c .before .load-holders .ensures, ap (λ (i : List ℕ). holderAt i (l .k + 1)) (l .inv .1)));
+    }
 
 store-holders-requires : tie.Need-store-holders-requires Inv-loop μ-loop
 store-holders-requires c κs = search needs

@@ -1,3 +1,4 @@
+use Rattle.protocol.specs.Laws.Tests.{passed-test, failed-test, is-false}
 use mathlib.Core.Path.{sym, _∙_}
 use borrow.Author.Tests.{not-true, not-false}
 use Rattle.mail.specs.Stored.{by}
@@ -13,16 +14,16 @@ same-length : tie.Need-same-length
 same-length c = search needs
 
 returns : tie.Need-returns
-returns c = absent (c .before .before .before .before .pre .0) (c .before .before .before .before .args .s .0) (c .before .before .before .before .args .n .0) (sym (c .before .present .ensures) ∙ not-true (c .before .present .result) (c .if1 .taken))
+returns c = search (absent, failed-test, needs) depth 7 fits 4000
 
 load-message-requires : tie.Need-load-message-requires
-load-message-requires c κs = let d = c .before .before .before .before .before in (d .pre .0 .size, sent-low (d .pre .0) (d .args .n .0) (sym (c .before .before .present .ensures) ∙ not-false (c .before .before .present .result) (c .before .if1 .left)))
+load-message-requires c κs = search (sent-low, passed-test, failed-test, is-false, needs) depth 7 fits 4000
 
 load-server-requires : tie.Need-load-server-requires
 load-server-requires c κs = search needs
 
 is-member-requires : tie.Need-is-member-requires
-is-member-requires c κs = let d = c .before .before .before .before .before .before .before .before .before .before in (d .pre .0, tag-low (d .pre .0) (d .args .n .0) (c .before .before .before .before .load-message .result) (c .before .before .before .before .load-message .ensures) (sym (c .before .before .before .before .before .before .before .present .ensures) ∙ not-false (c .before .before .before .before .before .before .before .present .result) (c .before .before .before .before .before .before .if1 .left)))
+is-member-requires c κs = search (tag-low, passed-test, failed-test, is-false, needs) depth 7 fits 4000
 
 refuses-requires : tie.Need-refuses-requires
 refuses-requires c κs = search needs
@@ -31,22 +32,14 @@ same-length-2 : tie.Need-same-length-2
 same-length-2 c = search needs
 
 returns-2 : tie.Need-returns-2
-returns-2 c =
-    let r = c .before in
-    let m = r .before in
-    let x = m .before .before .before in
-    let y = x .before .before in
-    let i = y .before .before in
-    let e = i .before in
-    let d = e .before .before .before in
-    deliver-no (d .pre .0) (d .args .s .0) (d .args .n .0) (d .pre .1) (d .pre .2) (sym (e .present .ensures) ∙ not-false (e .present .result) (i .if1 .left)) _ _ _ _
-    (y .load-message .ensures) (x .load-server .ensures) (m .is-member .ensures) (r .refuses .ensures) (c .if2 .taken)
+returns-2 c = search (deliver-no, passed-test, needs) depth 7 fits 4000
 
 entering-requires : tie.Need-entering-requires
 entering-requires c κs = search needs
 
 keep-started-requires : tie.Need-keep-started-requires
-keep-started-requires c κs = let d = c .before .before .before .before .before .before .before .before .before .before .before .before .before .before .before .before .before in (d .pre .0, d .pre .1, d .pre .2)
+keep-started-requires c κs =
+    let d = c .before .before .before .before .before .before .before .before .before .before .before .before .before .before .before .before .before in (d .pre .0, d .pre .1, d .pre .2)
 
 same-length-3 : tie.Need-same-length-3
 same-length-3 c = search needs
@@ -61,7 +54,8 @@ returns-3 c =
     let e = i .before in
     let d = e .before .before .before in
     deliver-kept (d .pre .0) (d .args .s .0) (d .args .n .0) (d .pre .1) (d .pre .2) (sym (e .present .ensures) ∙ not-false (e .present .result) (i .if1 .left)) _ _ _ _
-    (y .load-message .ensures) (x .load-server .ensures) (m .is-member .ensures) (r .refuses .ensures) (c .before .before .before .before .before .before .before .if2 .left) _ (c .before .before .before .before .entering .ensures) _ (c .before .before .before .before .before .if3 .taken) (c .before .before .keep-started .ensures)
+    (y .load-message .ensures) (x .load-server .ensures) (m .is-member .ensures) (r .refuses .ensures) (c .before .before .before .before .before .before .before .if2 .left) _
+    (c .before .before .before .before .entering .ensures) _ (c .before .before .before .before .before .if3 .taken) (c .before .before .keep-started .ensures)
 
 replying-requires : tie.Need-replying-requires
 replying-requires c κs = search needs
@@ -94,7 +88,9 @@ returns-4 c =
     let d = e .before .before .before in
     by
     (deliver-answers (d .pre .0) (d .args .s .0) (d .args .n .0) (d .pre .1) (d .pre .2) (sym (e .present .ensures) ∙ not-false (e .present .result) (i .if1 .left)) _ _ _ _
-    (y .load-message .ensures) (x .load-server .ensures) (m .is-member .ensures) (r .refuses .ensures) (c .before .before .before .before .before .before .before .before .before .if2 .left) _ (c .before .before .before .before .before .before .before .if3 .left) (c .before .before .before .before .before .before .replying .ensures))
+    (y .load-message .ensures) (x .load-server .ensures) (m .is-member .ensures) (r .refuses .ensures)
+    (c .before .before .before .before .before .before .before .before .before .if2 .left) _ (c .before .before .before .before .before .before .before .if3 .left)
+    (c .before .before .before .before .before .before .replying .ensures))
     (c .before .before .reply .ensures)
 
 pub deliver-spec : {M : Type 1} → statement M

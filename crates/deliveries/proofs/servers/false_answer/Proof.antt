@@ -1,3 +1,4 @@
+use Rattle.protocol.specs.Laws.Tests.{passed-test, failed-test, is-false}
 use mathlib.Core.Path.{sym, ap, _∙_}
 use Prim.Native.Nat.{_+_}
 use native.Mathlib.Omega.{arith}
@@ -16,10 +17,10 @@ same-length : tie.Need-same-length
 same-length c = search needs
 
 returns : tie.Need-returns
-returns c = let d = c .before .before .before .before in unasked (d .pre .0) (d .args .s .0) (d .args .t .0) (d .args .n .0) (d .args .source .0) (sym (c .before .present .ensures) ∙ not-true (c .before .present .result) (c .if1 .taken))
+returns c = search (unasked, failed-test, needs) depth 7 fits 4000
 
 load-message-requires : tie.Need-load-message-requires
-load-message-requires c κs = let d = c .before .before .before .before .before in (d .pre .0 .size, sent-low (d .pre .0) (d .args .n .0) (sym (c .before .before .present .ensures) ∙ not-false (c .before .before .present .result) (c .before .if1 .left)))
+load-message-requires c κs = search (sent-low, passed-test, failed-test, is-false, needs) depth 7 fits 4000
 
 load-server-requires : tie.Need-load-server-requires
 load-server-requires c κs = search needs
@@ -34,7 +35,7 @@ same-length-2 : tie.Need-same-length-2
 same-length-2 c = search needs
 
 returns-2 : tie.Need-returns-2
-returns-2 c = let d = c .before .before .before .before .before .before .before .before .before .before .before .before in lie-no (d .pre .0) (d .args .s .0) (d .args .t .0) (d .args .n .0) (d .args .source .0) (d .pre .1) (d .pre .2) (sym (c .before .before .before .before .before .before .before .before .before .present .ensures) ∙ not-false (c .before .before .before .before .before .before .before .before .before .present .result) (c .before .before .before .before .before .before .before .before .if1 .left)) (c .before .before .before .before .before .before .load-message .result) (c .before .before .before .before .load-server .result) (c .before .before .is-source .result) (c .before .may-answer .result) (c .before .before .before .before .before .before .load-message .ensures) (c .before .before .before .before .load-server .ensures) (c .before .before .is-source .ensures) (c .before .may-answer .ensures) (c .if2 .taken)
+returns-2 c = search (lie-no, passed-test, needs) depth 7 fits 4000
 
 load-used-requires : tie.Need-load-used-requires
 load-used-requires c κs = search needs
@@ -43,7 +44,7 @@ same-length-3 : tie.Need-same-length-3
 same-length-3 c = search needs
 
 returns-3 : tie.Need-returns-3
-returns-3 c = let d = c .before .before .before .before .before .before .before .before .before .before .before .before .before .before .before in lie-full (d .pre .0) (d .args .s .0) (d .args .t .0) (d .args .n .0) (d .args .source .0) (d .pre .1) (d .pre .2) (sym (c .before .before .before .before .before .before .before .before .before .before .before .before .present .ensures) ∙ not-false (c .before .before .before .before .before .before .before .before .before .before .before .before .present .result) (c .before .before .before .before .before .before .before .before .before .before .before .if1 .left)) (c .before .before .before .before .before .before .before .before .before .load-message .result) (c .before .before .before .before .before .before .before .load-server .result) (c .before .before .before .before .before .is-source .result) (c .before .before .before .before .may-answer .result) (c .before .before .before .before .before .before .before .before .before .load-message .ensures) (c .before .before .before .before .before .before .before .load-server .ensures) (c .before .before .before .before .before .is-source .ensures) (c .before .before .before .before .may-answer .ensures) (c .before .before .before .if2 .left) (c .before .load-used .result) (c .before .load-used .ensures) (c .if3 .taken)
+returns-3 c = search (lie-full, passed-test, needs) depth 7 fits 4000
 
 shown-entry-requires : tie.Need-shown-entry-requires
 shown-entry-requires c κs = search needs
@@ -55,7 +56,9 @@ add-t31 : tie.Need-add-t31
 add-t31 c = search needs
 
 send-requires : tie.Need-send-requires
-send-requires c κs = let d = c .before .before .before .before .before .before .before .before .before .before .before .before .before .before .before .before .before .before .before in (d .pre .0 .size, omega (arith, c .before .before .before .before .if3 .left))
+send-requires c κs =
+    let d = c .before .before .before .before .before .before .before .before .before .before .before .before .before .before .before .before .before .before .before in
+    (d .pre .0 .size, omega (arith, c .before .before .before .before .if3 .left))
 
 same-length-4 : tie.Need-same-length-4
 same-length-4 c = search needs
@@ -63,8 +66,23 @@ same-length-4 c = search needs
 returns-4 : tie.Need-returns-4
 returns-4 c =
     let d = c .before .before .before .before .before .before .before .before .before .before .before .before .before .before .before .before .before .before .before .before .before .before in
-    lie-done (d .pre .0) (d .args .s .0) (d .args .t .0) (d .args .n .0) (d .args .source .0) (d .pre .1) (d .pre .2) (sym (c .before .before .before .before .before .before .before .before .before .before .before .before .before .before .before .before .before .before .before .present .ensures) ∙ not-false (c .before .before .before .before .before .before .before .before .before .before .before .before .before .before .before .before .before .before .before .present .result) (c .before .before .before .before .before .before .before .before .before .before .before .before .before .before .before .before .before .before .if1 .left)) (c .before .before .before .before .before .before .before .before .before .before .before .before .before .before .before .before .load-message .result) (c .before .before .before .before .before .before .before .before .before .before .before .before .before .before .load-server .result) (c .before .before .before .before .before .before .before .before .before .before .before .before .is-source .result) (c .before .before .before .before .before .before .before .before .before .before .before .may-answer .result) (c .before .before .before .before .before .before .before .before .before .before .before .before .before .before .before .before .load-message .ensures) (c .before .before .before .before .before .before .before .before .before .before .before .before .before .before .load-server .ensures) (c .before .before .before .before .before .before .before .before .before .before .before .before .is-source .ensures) (c .before .before .before .before .before .before .before .before .before .before .before .may-answer .ensures) (c .before .before .before .before .before .before .before .before .before .before .if2 .left) (c .before .before .before .before .before .before .before .before .load-used .result) (c .before .before .before .before .before .before .before .before .load-used .ensures) _ _ (c .before .before .before .before .before .before .before .if3 .left) (c .before .before .before .before .before .shown-entry .ensures)
-    (c .before .before .send .ensures ∙ ap (λ (m : Message). putSent (d .args .image .now) (c .before .before .before .before .before .before .before .before .load-used .result + 1) m) (c .before .before .before .before .answer .ensures))
+    lie-done (d .pre .0) (d .args .s .0) (d .args .t .0) (d .args .n .0) (d .args .source .0) (d .pre .1) (d .pre .2)
+    (sym (c .before .before .before .before .before .before .before .before .before .before .before .before .before .before .before .before .before .before .before .present .ensures)
+    ∙ not-false (c .before .before .before .before .before .before .before .before .before .before .before .before .before .before .before .before .before .before .before .present .result)
+    (c .before .before .before .before .before .before .before .before .before .before .before .before .before .before .before .before .before .before .if1 .left))
+    (c .before .before .before .before .before .before .before .before .before .before .before .before .before .before .before .before .load-message .result)
+    (c .before .before .before .before .before .before .before .before .before .before .before .before .before .before .load-server .result)
+    (c .before .before .before .before .before .before .before .before .before .before .before .before .is-source .result)
+    (c .before .before .before .before .before .before .before .before .before .before .before .may-answer .result)
+    (c .before .before .before .before .before .before .before .before .before .before .before .before .before .before .before .before .load-message .ensures)
+    (c .before .before .before .before .before .before .before .before .before .before .before .before .before .before .load-server .ensures)
+    (c .before .before .before .before .before .before .before .before .before .before .before .before .is-source .ensures)
+    (c .before .before .before .before .before .before .before .before .before .before .before .may-answer .ensures)
+    (c .before .before .before .before .before .before .before .before .before .before .if2 .left) (c .before .before .before .before .before .before .before .before .load-used .result)
+    (c .before .before .before .before .before .before .before .before .load-used .ensures) _ _ (c .before .before .before .before .before .before .before .if3 .left)
+    (c .before .before .before .before .before .shown-entry .ensures)
+    (c .before .before .send .ensures ∙ ap (λ (m : Message). putSent (d .args .image .now) (c .before .before .before .before .before .before .before .before .load-used .result + 1) m)
+    (c .before .before .before .before .answer .ensures))
 
 pub false-answer-spec : {M : Type 1} → statement M
 false-answer-spec =

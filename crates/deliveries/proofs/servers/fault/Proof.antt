@@ -15,7 +15,7 @@ same-length : tie.Need-same-length
 same-length c = search needs
 
 returns : tie.Need-returns
-returns c = let d = c .before .before .before .before .before .before .before in fault-no (d .pre .0) (d .args .s .0) (d .pre .1) (d .pre .2) (c .before .before .before .before .load-server .result) (c .before .before .before .before .load-server .ensures) (c .if1 .taken)
+returns c = search (fault-no, needs) depth 7 fits 4000
 
 raise-requires : tie.Need-raise-requires
 raise-requires c κs = search needs
@@ -32,7 +32,8 @@ returns-2 c =
     let d = e .before .before .before .before .before .before .before .before .before in
     let x = e .before .before .before .before .before .before .load-server in
     fault-done (d .pre .0) (d .args .s .0) (d .pre .1) (d .pre .2) (x .result) (x .ensures) _ (e .before .before .if1 .left)
-    (c .before .before .store-server .ensures ∙ ap (λ (i : List ℕ). putServer i (d .args .s .0) (record { view = x .result .view; faulty = true; keys = x .result .keys; entry = x .result .entry })) (e .raise .ensures))
+    (c .before .before .store-server .ensures ∙ ap (λ (i : List ℕ). putServer i (d .args .s .0)
+    (record { view = x .result .view; faulty = true; keys = x .result .keys; entry = x .result .entry })) (e .raise .ensures))
 
 pub fault-spec : {M : Type 1} → statement M
 fault-spec =

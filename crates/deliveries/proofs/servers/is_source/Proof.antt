@@ -1,3 +1,4 @@
+use Rattle.protocol.specs.Laws.Tests.{passed-test, failed-test, is-false}
 use mathlib.Core.Path.{sym, _∙_}
 use borrow.Author.Tests.{not-true, not-false}
 use Rattle.deliveries.specs.Delivers.{sent-low, source-none, source-absent, source-is}
@@ -6,19 +7,19 @@ use Rattle.deliveries.proofs.servers.is_source.Statement.{statement}
 use Rattle.deliveries.proofs.servers.is_source.Tie as tie
 
 returns : tie.Need-returns
-returns c = let d = c .before .before in source-none (d .pre) (d .args .n .0) (c .if1 .taken)
+returns c = search (source-none, needs) depth 7 fits 4000
 
 present-requires : tie.Need-present-requires
 present-requires c κs = search needs
 
 returns-2 : tie.Need-returns-2
-returns-2 c = let d = c .before .before .before .before in source-absent (d .pre) (d .args .n .0) (c .before .before .if1 .left) (sym (c .before .present .ensures) ∙ not-true (c .before .present .result) (c .if2 .taken))
+returns-2 c = search (source-absent, failed-test, needs) depth 7 fits 4000
 
 load-message-requires : tie.Need-load-message-requires
-load-message-requires c κs = let d = c .before .before .before .before in (d .pre .size, sent-low (d .pre) (d .args .n .0) (sym (c .before .present .ensures) ∙ not-false (c .before .present .result) (c .if2 .left)))
+load-message-requires c κs = search (sent-low, passed-test, failed-test, is-false, needs) depth 7 fits 4000
 
 returns-3 : tie.Need-returns-3
-returns-3 c = let d = c .before .before .before .before .before in source-is (d .pre) (d .args .n .0) (c .load-message .result) (c .before .before .before .if1 .left) (sym (c .before .before .present .ensures) ∙ not-false (c .before .before .present .result) (c .before .if2 .left)) (c .load-message .ensures)
+returns-3 c = search (source-is, passed-test, needs) depth 7 fits 4000
 
 pub is-source-spec : {M : Type 1} → statement M
 is-source-spec =

@@ -15,7 +15,7 @@ same-length : tie.Need-same-length
 same-length c = search needs
 
 returns : tie.Need-returns
-returns c = let d = c .before .before .before .before in reply-no (d .pre .0) (d .args .s .0) (d .args .n .0) (d .pre .1) (d .pre .2) (d .args .b) (d .args .x) (c .before .load-used .result) (c .before .load-used .ensures) (c .if1 .taken)
+returns c = search (reply-no, needs) depth 7 fits 4000
 
 answer-requires : tie.Need-answer-requires
 answer-requires c κs = search needs
@@ -35,8 +35,13 @@ same-length-2 c = search needs
 returns-2 : tie.Need-returns-2
 returns-2 c =
     let d = c .before .before .before .before .before .before .before .before .before .before .before .before .before in
-    reply-done (d .pre .0) (d .args .s .0) (d .args .n .0) (d .pre .1) (d .pre .2) (d .args .b) (d .args .x) (c .before .before .before .before .before .before .before .before .before .before .load-used .result) (c .before .before .before .before .before .before .before .before .before .before .load-used .ensures) _ (d .pre .3) (d .pre .4) (c .before .before .before .before .before .before .before .before .before .if1 .left)
-    (c .before .before .send .ensures ∙ ap₂ (λ (i : List ℕ) (m : Message). putSent i (c .before .before .before .before .before .before .before .before .before .before .load-used .result + 1) m) (c .before .before .before .before .before .before .store-server .ensures) (c .before .before .before .before .before .before .before .before .answer .ensures))
+    reply-done (d .pre .0) (d .args .s .0) (d .args .n .0) (d .pre .1) (d .pre .2) (d .args .b) (d .args .x)
+    (c .before .before .before .before .before .before .before .before .before .before .load-used .result)
+    (c .before .before .before .before .before .before .before .before .before .before .load-used .ensures) _ (d .pre .3) (d .pre .4)
+    (c .before .before .before .before .before .before .before .before .before .if1 .left)
+    (c .before .before .send .ensures ∙ ap₂ (λ (i : List ℕ) (m : Message). putSent i
+    (c .before .before .before .before .before .before .before .before .before .before .load-used .result + 1) m) (c .before .before .before .before .before .before .store-server .ensures)
+    (c .before .before .before .before .before .before .before .before .answer .ensures))
 
 pub reply-spec : {M : Type 1} → statement M
 reply-spec =

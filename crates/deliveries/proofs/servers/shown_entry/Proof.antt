@@ -14,7 +14,7 @@ load-message-requires : tie.Need-load-message-requires
 load-message-requires c κs = search needs
 
 returns-2 : tie.Need-returns-2
-returns-2 c = let d = c .before .before .before .before in shown-is (d .pre .0) (d .args .n .0) (c .before .load-message .result) (c .before .before .if1 .left) (d .pre .1) (c .before .load-message .ensures)
+returns-2 c = search (shown-is, needs) depth 7 fits 4000
 
 pub shown-entry-spec : {M : Type 1} → statement M
 shown-entry-spec = tie.close (tie.spec entry-of-requires returns load-message-requires returns-2)

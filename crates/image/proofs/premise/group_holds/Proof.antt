@@ -49,7 +49,8 @@ view-holds-requires c κs =
 returns-2 : tie.Need-returns-2 Inv-loop μ-loop
 returns-2 c =
     let a = c .before .before .before .before .before .before .before .args in
-    sym (all-fails (λ x. within (a .image .now) (a .k + x)) group (c .before .before .before .loop .j + 1) (omega arith) (omega arith) (sym (c .before .view-holds .ensures) ∙ not-true _ (c .if2 .taken)))
+    sym (all-fails (λ x. within (a .image .now) (a .k + x)) group (c .before .before .before .loop .j + 1) (omega arith) (omega arith)
+    (sym (c .before .view-holds .ensures) ∙ not-true _ (c .if2 .taken)))
 
 add-j : tie.Need-add-j Inv-loop μ-loop
 add-j c = search needs

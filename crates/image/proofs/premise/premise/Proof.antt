@@ -22,11 +22,23 @@ premise-holds-requires c κs = sym (c .before .readable .ensures) ∙ not-false 
 
 returns-3 : tie.Need-returns-3
 unfolding premiseOn guard
-returns-3 c = rw (eq-eqb _ _ (c .before .before .before .before .if1 .left), (sym (c .before .before .before .readable .ensures) ∙ not-false _ (c .before .before .if2 .left)), sym (c .before .premise-holds .ensures) ∙ c .if3 .taken)
+returns-3 c =
+    rw (
+      eq-eqb _ _ (c .before .before .before .before .if1 .left),
+      (sym (c .before .before .before .readable .ensures) ∙ not-false _ (c .before .before .if2 .left)),
+      sym
+          (c .before .premise-holds .ensures) ∙ c .if3 .taken,
+    )
 
 returns-4 : tie.Need-returns-4
 unfolding premiseOn guard
-returns-4 c = rw (eq-eqb _ _ (c .before .before .before .before .if1 .left), (sym (c .before .before .before .readable .ensures) ∙ not-false _ (c .before .before .if2 .left)), sym (c .before .premise-holds .ensures) ∙ c .if3 .left)
+returns-4 c =
+    rw (
+      eq-eqb _ _ (c .before .before .before .before .if1 .left),
+      (sym (c .before .before .before .readable .ensures) ∙ not-false _ (c .before .before .if2 .left)),
+      sym
+          (c .before .premise-holds .ensures) ∙ c .if3 .left,
+    )
 
 pub premise-spec : {M : Type 1} → statement M
 premise-spec =

@@ -37,7 +37,10 @@ same-length : tie.Need-same-length Inv-loop μ-loop
 same-length c = search needs
 
 returns : tie.Need-returns Inv-loop μ-loop
-returns c = going-stop (c .before .before .before .before .before .before .before .before .before .loop .inv) (c .before .before .before .before .before .before .before .before .loop-test .taken) (c .before .before .before .before .before .first .result) _ (c .before .before .before .before .before .first .last .0) (c .before .r .given .1) (c .before .before .before .before .before .first .ensures)
+returns c =
+    going-stop (c .before .before .before .before .before .before .before .before .before .loop .inv) (c .before .before .before .before .before .before .before .before .loop-test .taken)
+    (c .before .before .before .before .before .first .result) _ (c .before .before .before .before .before .first .last .0) (c .before .r .given .1)
+    (c .before .before .before .before .before .first .ensures)
 
 enum-told : tie.Need-enum-told Inv-loop μ-loop
 enum-told c = search needs
@@ -49,7 +52,9 @@ loop-less : tie.Need-loop-less Inv-loop μ-loop
 loop-less c = search needs
 
 loop-again : tie.Need-loop-again Inv-loop μ-loop
-loop-again c = going-on (c .before .before .before .before .before .before .before .before .loop .inv) (c .before .before .before .before .before .before .before .loop-test .taken) (c .before .before .before .before .first .result) _ (c .before .before .before .before .first .last .0) (c .enum-told .given .1) (c .before .before .before .before .first .ensures)
+loop-again c =
+    going-on (c .before .before .before .before .before .before .before .before .loop .inv) (c .before .before .before .before .before .before .before .loop-test .taken)
+    (c .before .before .before .before .first .result) _ (c .before .before .before .before .first .last .0) (c .enum-told .given .1) (c .before .before .before .before .first .ensures)
 
 same-length-2 : tie.Need-same-length-2 Inv-loop μ-loop
 same-length-2 c = search needs

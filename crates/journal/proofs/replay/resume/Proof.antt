@@ -29,7 +29,9 @@ same-length c = search needs
 returns-2 : tie.Need-returns-2
 returns-2 c =
     let r = c .before .before .replay in
-    subst (λ (p : Played). Plays (r .result) (r .last .0) p) (rest-lent (c .before .before .before .before .before .before .before .before .args .image .now) (c .before .before .before .before .before .before .before .before .args .journal .now) (c .before .before .before .before .before .before .before .before .args .steps) (c .before .before .before .before .before .if1 .left)) (r .ensures)
+    subst (λ (p : Played). Plays (r .result) (r .last .0) p) (rest-lent (c .before .before .before .before .before .before .before .before .args .image .now)
+    (c .before .before .before .before .before .before .before .before .args .journal .now) (c .before .before .before .before .before .before .before .before .args .steps)
+    (c .before .before .before .before .before .if1 .left)) (r .ensures)
 
 pub resume-spec : {M : Type 1} → statement M
 resume-spec =

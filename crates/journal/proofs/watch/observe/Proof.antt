@@ -51,7 +51,8 @@ add-at c = search needs
 notice-requires : tie.Need-notice-requires Inv-loop μ-loop
 notice-requires c κs =
     let f = c .before .before .before .before .before in
-    going-on (f .before .before .before .before .loop .inv .going) (f .before .before .before .loop-test .taken) (f .first .result) _ (f .first .last .0) (c .before .enum-told .given .1) (f .first .ensures) .legible
+    going-on (f .before .before .before .before .loop .inv .going) (f .before .before .before .loop-test .taken) (f .first .result) _ (f .first .last .0) (c .before .enum-told .given .1)
+    (f .first .ensures) .legible
 
 loop-less : tie.Need-loop-less Inv-loop μ-loop
 loop-less c = search needs
@@ -59,7 +60,8 @@ loop-less c = search needs
 loop-again : tie.Need-loop-again Inv-loop μ-loop
 loop-again c =
     let f = c .before .before .before .before .before .before in
-    watching-on (f .before .before .before .before .loop .inv) (f .before .before .before .loop-test .taken) (f .first .result) _ (f .first .last .0) (c .notice .result) (c .before .before .enum-told .given .1) (f .first .ensures) (c .notice .ensures)
+    watching-on (f .before .before .before .before .loop .inv) (f .before .before .before .loop-test .taken) (f .first .result) _ (f .first .last .0) (c .notice .result)
+    (c .before .before .enum-told .given .1) (f .first .ensures) (c .notice .ensures)
 
 same-length-2 : tie.Need-same-length-2 Inv-loop μ-loop
 same-length-2 c = search needs

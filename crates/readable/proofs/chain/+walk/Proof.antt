@@ -70,7 +70,8 @@ walk-returns-3 : (t : ℕ) → walk-lts.Need-returns-3 (
 ) (walk-at t) walk.Post
 walk-returns-3 t c =
     let a = c .before .before .before .before .before .before .args in
-    sym (ap numbered (walked-stray (decode (a .image .now)) (a .request .0) (a .left) (a .n .0) (a .links) (c .before .before .before .if1 .left) (c .before .before .if2 .left) (sym (c .before .taken-answer .ensures) ∙ not-true _ (c .if3 .taken))))
+    sym (ap numbered (walked-stray (decode (a .image .now)) (a .request .0) (a .left) (a .n .0) (a .links) (c .before .before .before .if1 .left) (c .before .before .if2 .left)
+    (sym (c .before .taken-answer .ensures) ∙ not-true _ (c .if3 .taken))))
 
 walk-load-message-requires : (t : ℕ) → walk-lts.Need-load-message-requires (
   taken-answer-reads.Asked,
@@ -81,8 +82,11 @@ walk-load-message-requires : (t : ℕ) → walk-lts.Need-load-message-requires (
   walk.Post,
 ) (walk-at t) walk.Post
 walk-load-message-requires t c κs =
-    let a = c .before .before .before .before .before .before .args in
-    (search needs, taken-used (a .image .now) (a .request .0) (a .n .0) (sym (c .before .taken-answer .ensures) ∙ not-false _ (c .if3 .left)) (open-used (a .image .now) (c .before .before .before .before .before .before .pre .1 .0)))
+    let a = c .before .before .before .before .before .before .args in (
+      search needs,
+      taken-used (a .image .now) (a .request .0) (a .n .0) (sym (c .before .taken-answer .ensures) ∙ not-false _ (c .if3 .left))
+          (open-used (a .image .now) (c .before .before .before .before .before .before .pre .1 .0)),
+    )
 
 walk-sub-walk : (t : ℕ) → walk-lts.Need-sub-walk (
   taken-answer-reads.Asked,
@@ -124,8 +128,15 @@ walk-returns-4 : (t : ℕ) → walk-lts.Need-returns-4 (
 ) (walk-at t) walk.Post
 walk-returns-4 t c =
     let a = c .before .before .before .before .before .before .before .before .before .args in
-    let e = c .before .before .load-message .ensures ∙ sym (message-decode (a .image .now) (a .n .0) (taken-used (a .image .now) (a .request .0) (a .n .0) (sym (c .before .before .before .before .taken-answer .ensures) ∙ not-false _ (c .before .before .before .if3 .left)) (open-used (a .image .now) (c .before .before .before .before .before .before .before .before .before .pre .1 .0)))) in
-    rw (walked-on (decode (a .image .now)) (a .request .0) (a .left) (a .n .0) (a .links) (c .before .before .before .before .before .before .if1 .left) (c .before .before .before .before .before .if2 .left) (sym (c .before .before .before .before .taken-answer .ensures) ∙ not-false _ (c .before .before .before .if3 .left)), ← e) (c .walk .ensures)
+    let e = c .before .before .load-message .ensures ∙ sym (message-decode (a .image .now) (a .n .0)
+    (taken-used (a .image .now) (a .request .0) (a .n .0) (sym (c .before .before .before .before .taken-answer .ensures) ∙ not-false _ (c .before .before .before .if3 .left))
+    (open-used (a .image .now) (c .before .before .before .before .before .before .before .before .before .pre .1 .0)))) in
+    rw (
+      walked-on (decode (a .image .now)) (a .request .0) (a .left) (a .n .0) (a .links) (c .before .before .before .before .before .before .if1 .left)
+          (c .before .before .before .before .before .if2 .left) (sym (c .before .before .before .before .taken-answer .ensures) ∙ not-false _ (c .before .before .before .if3 .left)),
+      ← e,
+    )
+    (c .walk .ensures)
 
 pub +walk-spec : {M : Type 1} → statement M
 +walk-spec = close μ-walk λ t. walk-lts.spec (

@@ -4,6 +4,7 @@ use mathlib.Core.Logic.{⊎-elim}
 use Prim.Native.Nat.{_+_, _*_, _-_, _≤_}
 use native.Mathlib.Omega.{arith}
 use borrow.Author.Needs.{needs}
+use Rattle.protocol.specs.Sizes.{messages}
 use Rattle.protocol.specs.Tools.{pass, sumTo, countTo, allTo}
 use Rattle.codec.specs.Images.{decode}
 use Rattle.readable.specs.Scan.{open-used, chains-rule}
@@ -20,7 +21,7 @@ Inv-loop image used sum₀ taken₀ k₀ sum taken k =
     × (allTo (chainSound (decode image)) k ≡ true)
     × (sum ≡ sumTo (links (decode image)) k)
     × (taken ≡ countTo (isTaken (decode image)) k)
-    × (sum ≤ 1023 * k)
+    × (sum ≤ messages * k)
 
 abbrev μ-loop : tie.MeasureT-loop
 μ-loop image used sum₀ taken₀ k₀ sum taken k = used - k
@@ -68,8 +69,14 @@ returns : tie.Need-returns Inv-loop μ-loop
 returns c =
     let a = c .before .before .before .before .before .before .before .before .before .before .args in
     let l = c .before .before .before .before .before .before .before .loop in
-    let q = broken (chainSound (decode (a .image .now)) (l .k + 1)) (links (decode (a .image .now)) (l .k + 1)) (sym (chained-links (decode (a .image .now)) (l .k + 1)) ∙ sym (c .before .before .chain-of .ensures) ∙ ap followed (c .enum-told .given .1)) in
-    rw (chains-rule (a .image .now) (c .before .before .before .before .before .before .before .before .load-used .result) (c .before .before .before .before .before .before .before .before .load-used .ensures), all-fails (chainSound (decode (a .image .now))) (c .before .before .before .before .before .before .before .before .load-used .result) (l .k + 1) (omega arith) (omega arith) q)
+    let q = broken (chainSound (decode (a .image .now)) (l .k + 1)) (links (decode (a .image .now)) (l .k + 1))
+    (sym (chained-links (decode (a .image .now)) (l .k + 1)) ∙ sym (c .before .before .chain-of .ensures) ∙ ap followed (c .enum-told .given .1)) in
+    rw (
+      chains-rule (a .image .now) (c .before .before .before .before .before .before .before .before .load-used .result)
+          (c .before .before .before .before .before .before .before .before .load-used .ensures),
+      all-fails (chainSound (decode (a .image .now)))
+          (c .before .before .before .before .before .before .before .before .load-used .result) (l .k + 1) (omega arith) (omega arith) q,
+    )
 
 cast-sum : tie.Need-cast-sum Inv-loop μ-loop
 cast-sum c = search needs
@@ -79,7 +86,8 @@ add-sum c =
     let a = c .before .before .before .before .before .before .before .before .before .before .before .args in
     let l = c .before .before .before .before .before .before .before .before .loop in
     let h = open-used (a .image .now) (c .before .before .before .before .before .before .before .before .before .before .before .pre) in
-    let q = whole (chainSound (decode (a .image .now)) (l .k + 1)) (links (decode (a .image .now)) (l .k + 1)) (c .before .chain .given .0 .0) (sym (chained-links (decode (a .image .now)) (l .k + 1)) ∙ sym (c .before .before .before .chain-of .ensures) ∙ ap followed (c .before .chain .given .1)) in
+    let q = whole (chainSound (decode (a .image .now)) (l .k + 1)) (links (decode (a .image .now)) (l .k + 1)) (c .before .chain .given .0 .0)
+    (sym (chained-links (decode (a .image .now)) (l .k + 1)) ∙ sym (c .before .before .before .chain-of .ensures) ∙ ap followed (c .before .chain .given .1)) in
     omega (arith, c .before .before .before .before .before .before .before .before .before .load-used .ensures, links-most (decode (a .image .now)) (l .k + 1))
 
 add-k : tie.Need-add-k Inv-loop μ-loop
@@ -119,7 +127,8 @@ returns-2 : tie.Need-returns-2 Inv-loop μ-loop
 returns-2 c =
     let l = c .before .loop in
     let e : l .k ≡ c .before .before .load-used .result = omega arith in
-    rw (chains-rule (c .before .before .before .before .args .image .now) (c .before .before .load-used .result) (c .before .before .load-used .ensures), ← e) (pass (l .inv .1) (rw (← l .inv .2, ← l .inv .3)))
+    rw (chains-rule (c .before .before .before .before .args .image .now) (c .before .before .load-used .result) (c .before .before .load-used .ensures), ← e)
+    (pass (l .inv .1) (rw (← l .inv .2, ← l .inv .3)))
 
 pub chains-fit-spec : {M : Type 1} → statement M
 chains-fit-spec =

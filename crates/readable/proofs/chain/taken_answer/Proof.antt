@@ -28,7 +28,8 @@ returns-2 c =
     let a = c .before .before .before .before .before .before .before .args in
     let i = a .image .now in
     let n = a .n .0 in
-    let b = present-used i n (sym (c .before .before .before .before .before .present .ensures) ∙ not-false _ (c .before .before .before .before .if1 .left)) (open-used i (c .before .before .before .before .before .before .before .pre)) in
+    let b = present-used i n (sym (c .before .before .before .before .before .present .ensures) ∙ not-false _ (c .before .before .before .before .if1 .left))
+    (open-used i (c .before .before .before .before .before .before .before .pre)) in
     let e = c .before .before .before .load-message .ensures ∙ sym (message-decode i n (b)) in
     pass (sym (c .before .before .before .before .before .present .ensures) ∙ not-false _ (c .before .before .before .before .if1 .left)) (rw (← e, ne-eqb _ _ (c .if2 .taken)))
 
@@ -38,9 +39,11 @@ returns-3 c =
     let a = c .before .before .before .before .before .before .before .before .before .args in
     let i = a .image .now in
     let n = a .n .0 in
-    let b = present-used i n (sym (c .before .before .before .before .before .before .before .present .ensures) ∙ not-false _ (c .before .before .before .before .before .before .if1 .left)) (open-used i (c .before .before .before .before .before .before .before .before .before .pre)) in
+    let b = present-used i n (sym (c .before .before .before .before .before .before .before .present .ensures) ∙ not-false _ (c .before .before .before .before .before .before .if1 .left))
+    (open-used i (c .before .before .before .before .before .before .before .before .before .pre)) in
     let e = c .before .before .before .before .before .load-message .ensures ∙ sym (message-decode i n (b)) in
-    pass (sym (c .before .before .before .before .before .before .before .present .ensures) ∙ not-false _ (c .before .before .before .before .before .before .if1 .left)) (rw (← e, eq-eqb _ _ (c .before .before .if2 .left), not-true (c .before .before .before .before .before .load-message .result .taken) (c .if3 .taken)))
+    pass (sym (c .before .before .before .before .before .before .before .present .ensures) ∙ not-false _ (c .before .before .before .before .before .before .if1 .left))
+    (rw (← e, eq-eqb _ _ (c .before .before .if2 .left), not-true (c .before .before .before .before .before .load-message .result .taken) (c .if3 .taken)))
 
 returns-4 : tie.Need-returns-4
 unfolding takenAnswer
@@ -48,9 +51,17 @@ returns-4 c =
     let a = c .before .before .before .before .before .before .before .before .before .before .before .args in
     let i = a .image .now in
     let n = a .n .0 in
-    let b = present-used i n (sym (c .before .before .before .before .before .before .before .before .before .present .ensures) ∙ not-false _ (c .before .before .before .before .before .before .before .before .if1 .left)) (open-used i (c .before .before .before .before .before .before .before .before .before .before .before .pre)) in
+    let b = present-used i n (sym (c .before .before .before .before .before .before .before .before .before .present .ensures) ∙ not-false _
+    (c .before .before .before .before .before .before .before .before .if1 .left)) (open-used i (c .before .before .before .before .before .before .before .before .before .before .before .pre)) in
     let e = c .before .before .before .before .before .before .before .load-message .ensures ∙ sym (message-decode i n (b)) in
-    pass (sym (c .before .before .before .before .before .before .before .before .before .present .ensures) ∙ not-false _ (c .before .before .before .before .before .before .before .before .if1 .left)) (rw (← e, eq-eqb _ _ (c .before .before .before .before .if2 .left), not-false (c .before .before .before .before .before .before .before .load-message .result .taken) (c .before .before .if3 .left)))
+    pass (sym (c .before .before .before .before .before .before .before .before .before .present .ensures) ∙ not-false _
+    (c .before .before .before .before .before .before .before .before .if1 .left))
+    (rw (
+      ← e,
+      eq-eqb _ _ (c .before .before .before .before .if2 .left),
+      not-false (c .before .before .before .before .before .before .before .load-message .result .taken)
+          (c .before .before .if3 .left),
+    ))
 
 pub taken-answer-spec : {M : Type 1} → statement M
 taken-answer-spec =

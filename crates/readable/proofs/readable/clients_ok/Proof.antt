@@ -27,7 +27,9 @@ client-ok-requires : tie.Need-client-ok-requires Inv-loop μ-loop
 client-ok-requires c κs = (c .before .before .before .pre, omega arith, omega arith)
 
 returns : tie.Need-returns Inv-loop μ-loop
-returns c = sym (all-fails (clientOk (c .before .before .before .before .before .args .image .now)) clients (c .before .before .before .loop .k + 1) (omega arith) (omega arith) (sym (c .before .client-ok .ensures) ∙ not-true _ (c .if1 .taken)))
+returns c =
+    sym (all-fails (clientOk (c .before .before .before .before .before .args .image .now)) clients (c .before .before .before .loop .k + 1) (omega arith) (omega arith)
+    (sym (c .before .client-ok .ensures) ∙ not-true _ (c .if1 .taken)))
 
 add-k : tie.Need-add-k Inv-loop μ-loop
 add-k c = search needs

@@ -46,7 +46,10 @@ message-ok-requires c κs =
 
 returns-2 : tie.Need-returns-2 Inv-loop μ-loop
 unfolding messagesOk
-returns-2 c = pass (sym (c .before .before .before .before .before .before .first-zero .ensures) ∙ not-false _ (c .before .before .before .before .before .if1 .left)) (sym (all-fails (messageOk (c .before .before .before .before .before .before .before .before .args .image .now)) 1023 (c .before .before .before .loop .k + 1) (omega arith) (omega arith) (sym (c .before .message-ok .ensures) ∙ not-true _ (c .if2 .taken))))
+returns-2 c =
+    pass (sym (c .before .before .before .before .before .before .first-zero .ensures) ∙ not-false _ (c .before .before .before .before .before .if1 .left))
+    (sym (all-fails (messageOk (c .before .before .before .before .before .before .before .before .args .image .now)) messages (c .before .before .before .loop .k + 1) (omega arith)
+    (omega arith) (sym (c .before .message-ok .ensures) ∙ not-true _ (c .if2 .taken))))
 
 add-k : tie.Need-add-k Inv-loop μ-loop
 add-k c = search needs

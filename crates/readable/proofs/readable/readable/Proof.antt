@@ -23,58 +23,120 @@ load-administrator-requires : tie.Need-load-administrator-requires
 load-administrator-requires c κs = search needs
 
 views-ok-requires : tie.Need-views-ok-requires
-views-ok-requires c κs = (open-header (c .before .before .before .before .before .before .args .image .now) (c .before .before .before .before .if1 .left) (sym (c .before .before .before .header-ok .ensures) ∙ not-false _ (c .before .before .if2 .left)), c .before .load-administrator .ensures)
+views-ok-requires c κs = (
+  open-header (c .before .before .before .before .before .before .args .image .now) (c .before .before .before .before .if1 .left)
+      (sym (c .before .before .before .header-ok .ensures) ∙ not-false _ (c .before .before .if2 .left)),
+  c .before .load-administrator .ensures,
+)
 
 returns-3 : tie.Need-returns-3
 unfolding scanned
 returns-3 c =
-    rw (readable-scan (c .before .before .before .before .before .before .before .before .args .image .now) (c .before .before .before .before .before .before .if1 .left) (λ k. c .before .before .before .before .before .before .before .shared-slice-known .given k .fits))
-    (pass (sym (c .before .before .before .before .before .header-ok .ensures) ∙ not-false _ (c .before .before .before .before .if2 .left)) (rw (sym (c .before .views-ok .ensures) ∙ not-true _ (c .if3 .taken))))
+    rw (readable-scan (c .before .before .before .before .before .before .before .before .args .image .now) (c .before .before .before .before .before .before .if1 .left)
+    (λ k. c .before .before .before .before .before .before .before .shared-slice-known .given k .fits))
+    (pass (sym (c .before .before .before .before .before .header-ok .ensures) ∙ not-false _ (c .before .before .before .before .if2 .left))
+    (rw (sym (c .before .views-ok .ensures) ∙ not-true _ (c .if3 .taken))))
 
 servers-ok-requires : tie.Need-servers-ok-requires
-servers-ok-requires c κs = (open-header (c .before .before .before .before .before .before .before .before .args .image .now) (c .before .before .before .before .before .before .if1 .left) (sym (c .before .before .before .before .before .header-ok .ensures) ∙ not-false _ (c .before .before .before .before .if2 .left)), ap (λ (a : Administrator). a .newest .0) (c .before .before .before .load-administrator .ensures))
+servers-ok-requires c κs = (
+  open-header (c .before .before .before .before .before .before .before .before .args .image .now) (c .before .before .before .before .before .before .if1 .left)
+      (sym (c .before .before .before .before .before .header-ok .ensures) ∙ not-false _ (c .before .before .before .before .if2 .left)),
+  ap (λ (a : Administrator). a .newest .0)
+      (c .before .before .before .load-administrator .ensures),
+)
 
 returns-4 : tie.Need-returns-4
 unfolding scanned
 returns-4 c =
-    rw (readable-scan (c .before .before .before .before .before .before .before .before .before .before .args .image .now) (c .before .before .before .before .before .before .before .before .if1 .left) (λ k. c .before .before .before .before .before .before .before .before .before .shared-slice-known .given k .fits))
-    (pass (sym (c .before .before .before .before .before .before .before .header-ok .ensures) ∙ not-false _ (c .before .before .before .before .before .before .if2 .left)) (pass (sym (c .before .before .before .views-ok .ensures) ∙ not-false _ (c .before .before .if3 .left)) (rw (sym (c .before .servers-ok .ensures) ∙ not-true _ (c .if4 .taken)))))
+    rw (readable-scan (c .before .before .before .before .before .before .before .before .before .before .args .image .now)
+    (c .before .before .before .before .before .before .before .before .if1 .left) (λ k. c .before .before .before .before .before .before .before .before .before .shared-slice-known .given k .fits))
+    (pass (sym (c .before .before .before .before .before .before .before .header-ok .ensures) ∙ not-false _ (c .before .before .before .before .before .before .if2 .left))
+    (pass (sym (c .before .before .before .views-ok .ensures) ∙ not-false _ (c .before .before .if3 .left)) (rw (sym (c .before .servers-ok .ensures) ∙ not-true _ (c .if4 .taken)))))
 
 clients-ok-requires : tie.Need-clients-ok-requires
-clients-ok-requires c κs = open-header (c .before .before .before .before .before .before .before .before .before .before .args .image .now) (c .before .before .before .before .before .before .before .before .if1 .left) (sym (c .before .before .before .before .before .before .before .header-ok .ensures) ∙ not-false _ (c .before .before .before .before .before .before .if2 .left))
+clients-ok-requires c κs =
+    open-header (c .before .before .before .before .before .before .before .before .before .before .args .image .now)
+    (c .before .before .before .before .before .before .before .before .if1 .left)
+    (sym (c .before .before .before .before .before .before .before .header-ok .ensures) ∙ not-false _ (c .before .before .before .before .before .before .if2 .left))
 
 returns-5 : tie.Need-returns-5
 unfolding scanned
 returns-5 c =
-    rw (readable-scan (c .before .before .before .before .before .before .before .before .before .before .before .before .args .image .now) (c .before .before .before .before .before .before .before .before .before .before .if1 .left) (λ k. c .before .before .before .before .before .before .before .before .before .before .before .shared-slice-known .given k .fits))
-    (pass (sym (c .before .before .before .before .before .before .before .before .before .header-ok .ensures) ∙ not-false _ (c .before .before .before .before .before .before .before .before .if2 .left)) (pass (sym (c .before .before .before .before .before .views-ok .ensures) ∙ not-false _ (c .before .before .before .before .if3 .left)) (pass (sym (c .before .before .before .servers-ok .ensures) ∙ not-false _ (c .before .before .if4 .left)) (rw (sym (c .before .clients-ok .ensures) ∙ not-true _ (c .if5 .taken))))))
+    rw (readable-scan (c .before .before .before .before .before .before .before .before .before .before .before .before .args .image .now)
+    (c .before .before .before .before .before .before .before .before .before .before .if1 .left)
+    (λ k. c .before .before .before .before .before .before .before .before .before .before .before .shared-slice-known .given k .fits))
+    (pass (sym (c .before .before .before .before .before .before .before .before .before .header-ok .ensures) ∙ not-false _
+    (c .before .before .before .before .before .before .before .before .if2 .left))
+    (pass (sym (c .before .before .before .before .before .views-ok .ensures) ∙ not-false _ (c .before .before .before .before .if3 .left))
+    (pass (sym (c .before .before .before .servers-ok .ensures) ∙ not-false _ (c .before .before .if4 .left)) (rw (sym (c .before .clients-ok .ensures) ∙ not-true _ (c .if5 .taken))))))
 
 messages-ok-requires : tie.Need-messages-ok-requires
-messages-ok-requires c κs = (open-header (c .before .before .before .before .before .before .before .before .before .before .before .before .args .image .now) (c .before .before .before .before .before .before .before .before .before .before .if1 .left) (sym (c .before .before .before .before .before .before .before .before .before .header-ok .ensures) ∙ not-false _ (c .before .before .before .before .before .before .before .before .if2 .left)), ap (λ (a : Administrator). a .newest .0) (c .before .before .before .before .before .before .before .load-administrator .ensures))
+messages-ok-requires c κs = (
+  open-header (c .before .before .before .before .before .before .before .before .before .before .before .before .args .image .now)
+      (c .before .before .before .before .before .before .before .before .before .before .if1 .left)
+      (sym (c .before .before .before .before .before .before .before .before .before .header-ok .ensures) ∙ not-false _
+      (c .before .before .before .before .before .before .before .before .if2 .left)),
+  ap (λ (a : Administrator). a .newest .0)
+      (c .before .before .before .before .before .before .before .load-administrator .ensures),
+)
 
 returns-6 : tie.Need-returns-6
 unfolding scanned
 returns-6 c =
-    rw (readable-scan (c .before .before .before .before .before .before .before .before .before .before .before .before .before .before .args .image .now) (c .before .before .before .before .before .before .before .before .before .before .before .before .if1 .left) (λ k. c .before .before .before .before .before .before .before .before .before .before .before .before .before .shared-slice-known .given k .fits))
-    (pass (sym (c .before .before .before .before .before .before .before .before .before .before .before .header-ok .ensures) ∙ not-false _ (c .before .before .before .before .before .before .before .before .before .before .if2 .left)) (pass (sym (c .before .before .before .before .before .before .before .views-ok .ensures) ∙ not-false _ (c .before .before .before .before .before .before .if3 .left)) (pass (sym (c .before .before .before .before .before .servers-ok .ensures) ∙ not-false _ (c .before .before .before .before .if4 .left)) (pass (sym (c .before .before .before .clients-ok .ensures) ∙ not-false _ (c .before .before .if5 .left)) (rw (sym (c .before .messages-ok .ensures) ∙ not-true _ (c .if6 .taken)))))))
+    rw (readable-scan (c .before .before .before .before .before .before .before .before .before .before .before .before .before .before .args .image .now)
+    (c .before .before .before .before .before .before .before .before .before .before .before .before .if1 .left)
+    (λ k. c .before .before .before .before .before .before .before .before .before .before .before .before .before .shared-slice-known .given k .fits))
+    (pass (sym (c .before .before .before .before .before .before .before .before .before .before .before .header-ok .ensures) ∙ not-false _
+    (c .before .before .before .before .before .before .before .before .before .before .if2 .left))
+    (pass (sym (c .before .before .before .before .before .before .before .views-ok .ensures) ∙ not-false _ (c .before .before .before .before .before .before .if3 .left))
+    (pass (sym (c .before .before .before .before .before .servers-ok .ensures) ∙ not-false _ (c .before .before .before .before .if4 .left))
+    (pass (sym (c .before .before .before .clients-ok .ensures) ∙ not-false _ (c .before .before .if5 .left)) (rw (sym (c .before .messages-ok .ensures) ∙ not-true _ (c .if6 .taken)))))))
 
 chains-fit-requires : tie.Need-chains-fit-requires
-chains-fit-requires c κs = open-header (c .before .before .before .before .before .before .before .before .before .before .before .before .before .before .args .image .now) (c .before .before .before .before .before .before .before .before .before .before .before .before .if1 .left) (sym (c .before .before .before .before .before .before .before .before .before .before .before .header-ok .ensures) ∙ not-false _ (c .before .before .before .before .before .before .before .before .before .before .if2 .left))
+chains-fit-requires c κs =
+    open-header (c .before .before .before .before .before .before .before .before .before .before .before .before .before .before .args .image .now)
+    (c .before .before .before .before .before .before .before .before .before .before .before .before .if1 .left)
+    (sym (c .before .before .before .before .before .before .before .before .before .before .before .header-ok .ensures) ∙ not-false _
+    (c .before .before .before .before .before .before .before .before .before .before .if2 .left))
 
 returns-7 : tie.Need-returns-7
 unfolding scanned
 returns-7 c =
-    rw (readable-scan (c .before .before .before .before .before .before .before .before .before .before .before .before .before .before .before .before .args .image .now) (c .before .before .before .before .before .before .before .before .before .before .before .before .before .before .if1 .left) (λ k. c .before .before .before .before .before .before .before .before .before .before .before .before .before .before .before .shared-slice-known .given k .fits))
-    (pass (sym (c .before .before .before .before .before .before .before .before .before .before .before .before .before .header-ok .ensures) ∙ not-false _ (c .before .before .before .before .before .before .before .before .before .before .before .before .if2 .left)) (pass (sym (c .before .before .before .before .before .before .before .before .before .views-ok .ensures) ∙ not-false _ (c .before .before .before .before .before .before .before .before .if3 .left)) (pass (sym (c .before .before .before .before .before .before .before .servers-ok .ensures) ∙ not-false _ (c .before .before .before .before .before .before .if4 .left)) (pass (sym (c .before .before .before .before .before .clients-ok .ensures) ∙ not-false _ (c .before .before .before .before .if5 .left)) (pass (sym (c .before .before .before .messages-ok .ensures) ∙ not-false _ (c .before .before .if6 .left)) (rw (sym (c .before .chains-fit .ensures) ∙ not-true _ (c .if7 .taken))))))))
+    rw (readable-scan (c .before .before .before .before .before .before .before .before .before .before .before .before .before .before .before .before .args .image .now)
+    (c .before .before .before .before .before .before .before .before .before .before .before .before .before .before .if1 .left)
+    (λ k. c .before .before .before .before .before .before .before .before .before .before .before .before .before .before .before .shared-slice-known .given k .fits))
+    (pass (sym (c .before .before .before .before .before .before .before .before .before .before .before .before .before .header-ok .ensures) ∙ not-false _
+    (c .before .before .before .before .before .before .before .before .before .before .before .before .if2 .left))
+    (pass (sym (c .before .before .before .before .before .before .before .before .before .views-ok .ensures) ∙ not-false _
+    (c .before .before .before .before .before .before .before .before .if3 .left))
+    (pass (sym (c .before .before .before .before .before .before .before .servers-ok .ensures) ∙ not-false _ (c .before .before .before .before .before .before .if4 .left))
+    (pass (sym (c .before .before .before .before .before .clients-ok .ensures) ∙ not-false _ (c .before .before .before .before .if5 .left))
+    (pass (sym (c .before .before .before .messages-ok .ensures) ∙ not-false _ (c .before .before .if6 .left)) (rw (sym (c .before .chains-fit .ensures) ∙ not-true _ (c .if7 .taken))))))))
 
 holders-ok-requires : tie.Need-holders-ok-requires
-holders-ok-requires c κs = (c .before .before .before .before .before .before .before .before .before .before .before .before .before .before .if1 .left, servers-served (c .before .before .before .before .before .before .before .before .before .before .before .before .before .before .before .before .args .image .now) (sym (c .before .before .before .before .before .before .before .servers-ok .ensures) ∙ not-false _ (c .before .before .before .before .before .before .if4 .left)), ap (λ (a : Administrator). a .newest .0) (c .before .before .before .before .before .before .before .before .before .before .before .load-administrator .ensures))
+holders-ok-requires c κs = (
+  c .before .before .before .before .before .before .before .before .before .before .before .before .before .before .if1 .left,
+  servers-served
+      (c .before .before .before .before .before .before .before .before .before .before .before .before .before .before .before .before .args .image .now)
+      (sym (c .before .before .before .before .before .before .before .servers-ok .ensures) ∙ not-false _ (c .before .before .before .before .before .before .if4 .left)),
+  ap
+      (λ (a : Administrator). a .newest .0) (c .before .before .before .before .before .before .before .before .before .before .before .load-administrator .ensures),
+)
 
 returns-8 : tie.Need-returns-8
 unfolding scanned
 returns-8 c =
-    rw (readable-scan (c .before .before .before .before .before .before .before .before .before .before .before .before .before .before .before .before .before .args .image .now) (c .before .before .before .before .before .before .before .before .before .before .before .before .before .before .before .if1 .left) (λ k. c .before .before .before .before .before .before .before .before .before .before .before .before .before .before .before .before .shared-slice-known .given k .fits))
-    (pass (sym (c .before .before .before .before .before .before .before .before .before .before .before .before .before .before .header-ok .ensures) ∙ not-false _ (c .before .before .before .before .before .before .before .before .before .before .before .before .before .if2 .left)) (pass (sym (c .before .before .before .before .before .before .before .before .before .before .views-ok .ensures) ∙ not-false _ (c .before .before .before .before .before .before .before .before .before .if3 .left)) (pass (sym (c .before .before .before .before .before .before .before .before .servers-ok .ensures) ∙ not-false _ (c .before .before .before .before .before .before .before .if4 .left)) (pass (sym (c .before .before .before .before .before .before .clients-ok .ensures) ∙ not-false _ (c .before .before .before .before .before .if5 .left)) (pass (sym (c .before .before .before .before .messages-ok .ensures) ∙ not-false _ (c .before .before .before .if6 .left)) (pass (sym (c .before .before .chains-fit .ensures) ∙ not-false _ (c .before .if7 .left)) (c .holders-ok .ensures)))))))
+    rw (readable-scan (c .before .before .before .before .before .before .before .before .before .before .before .before .before .before .before .before .before .args .image .now)
+    (c .before .before .before .before .before .before .before .before .before .before .before .before .before .before .before .if1 .left)
+    (λ k. c .before .before .before .before .before .before .before .before .before .before .before .before .before .before .before .before .shared-slice-known .given k .fits))
+    (pass (sym (c .before .before .before .before .before .before .before .before .before .before .before .before .before .before .header-ok .ensures) ∙ not-false _
+    (c .before .before .before .before .before .before .before .before .before .before .before .before .before .if2 .left))
+    (pass (sym (c .before .before .before .before .before .before .before .before .before .before .views-ok .ensures) ∙ not-false _
+    (c .before .before .before .before .before .before .before .before .before .if3 .left))
+    (pass (sym (c .before .before .before .before .before .before .before .before .servers-ok .ensures) ∙ not-false _ (c .before .before .before .before .before .before .before .if4 .left))
+    (pass (sym (c .before .before .before .before .before .before .clients-ok .ensures) ∙ not-false _ (c .before .before .before .before .before .if5 .left))
+    (pass (sym (c .before .before .before .before .messages-ok .ensures) ∙ not-false _ (c .before .before .before .if6 .left))
+    (pass (sym (c .before .before .chains-fit .ensures) ∙ not-false _ (c .before .if7 .left)) (c .holders-ok .ensures)))))))
 
 pub readable-spec : {M : Type 1} → statement M
 readable-spec =

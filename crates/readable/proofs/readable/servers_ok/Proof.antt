@@ -30,7 +30,9 @@ server-ok-requires c κs =
     (h .0, omega arith, omega arith, h .1)
 
 returns : tie.Need-returns Inv-loop μ-loop
-returns c = sym (all-fails (serverOk (c .before .before .before .before .before .args .image .now)) servers (c .before .before .before .loop .k + 1) (omega arith) (omega arith) (sym (c .before .server-ok .ensures) ∙ not-true _ (c .if1 .taken)))
+returns c =
+    sym (all-fails (serverOk (c .before .before .before .before .before .args .image .now)) servers (c .before .before .before .loop .k + 1) (omega arith) (omega arith)
+    (sym (c .before .server-ok .ensures) ∙ not-true _ (c .if1 .taken)))
 
 add-k : tie.Need-add-k Inv-loop μ-loop
 add-k c = search needs

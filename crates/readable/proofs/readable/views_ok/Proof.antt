@@ -35,7 +35,9 @@ view-ok-requires c κs =
     (h .0 .size, omega arith, omega arith, c .before .before .last-of .ensures ∙ ap lastOf (h .1))
 
 returns : tie.Need-returns Inv-loop μ-loop
-returns c = sym (all-fails (viewOk (c .before .before .before .before .before .before .args .image .now)) views (c .before .before .before .loop .k + 1) (omega arith) (omega arith) (sym (c .before .view-ok .ensures) ∙ not-true _ (c .if1 .taken)))
+returns c =
+    sym (all-fails (viewOk (c .before .before .before .before .before .before .args .image .now)) views (c .before .before .before .loop .k + 1) (omega arith) (omega arith)
+    (sym (c .before .view-ok .ensures) ∙ not-true _ (c .if1 .taken)))
 
 add-k : tie.Need-add-k Inv-loop μ-loop
 add-k c = search needs

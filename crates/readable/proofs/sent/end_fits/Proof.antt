@@ -41,7 +41,8 @@ returns-3 c =
     let r = end-rule i (v .a) (v .n) (c .before .before .before .before .before .before .before .before .before .before .pre .2) in
     let b = sent-used i n 3 0 (sym (c .before .before .before .before .before .is-sent .ensures) ∙ not-false _ (c .before .before .before .before .if2 .left)) (search needs) in
     let e = c .before .before .before .load-message .ensures ∙ sym (message-decode i n (b)) in
-    rw (r, lt-ltb _ _ (c .before .before .before .before .before .before .if1 .left), ← e) (pass (sym (c .before .before .before .before .before .is-sent .ensures) ∙ not-false _ (c .before .before .before .before .if2 .left)) refl)
+    rw (r, lt-ltb _ _ (c .before .before .before .before .before .before .if1 .left), ← e)
+    (pass (sym (c .before .before .before .before .before .is-sent .ensures) ∙ not-false _ (c .before .before .before .before .if2 .left)) refl)
 
 pub end-fits-spec : {M : Type 1} → statement M
 end-fits-spec =

@@ -34,9 +34,11 @@ returns-3 c =
     let a = c .before .before .before .before .before .before .before .before .before .args in
     let i = a .image .now in
     let n = a .n .0 in
-    let b = sent-used i n 2 (a .c) (sym (c .before .before .before .before .is-sent .ensures) ∙ not-false _ (c .before .before .before .if2 .left)) (open-used i (c .before .before .before .before .before .before .before .before .before .pre)) in
+    let b = sent-used i n 2 (a .c) (sym (c .before .before .before .before .is-sent .ensures) ∙ not-false _ (c .before .before .before .if2 .left))
+    (open-used i (c .before .before .before .before .before .before .before .before .before .pre)) in
     let e = c .before .before .load-message .ensures ∙ sym (message-decode i n (b)) in
-    pass (sym (c .before .before .before .before .before .before .kind-fits .ensures) ∙ not-false _ (c .before .before .before .before .before .if1 .left)) (pass (sym (c .before .before .before .before .is-sent .ensures) ∙ not-false _ (c .before .before .before .if2 .left)) (rw (← e) (c .same .ensures)))
+    pass (sym (c .before .before .before .before .before .before .kind-fits .ensures) ∙ not-false _ (c .before .before .before .before .before .if1 .left))
+    (pass (sym (c .before .before .before .before .is-sent .ensures) ∙ not-false _ (c .before .before .before .if2 .left)) (rw (← e) (c .same .ensures)))
 
 pub writing-fits-spec : {M : Type 1} → statement M
 writing-fits-spec =

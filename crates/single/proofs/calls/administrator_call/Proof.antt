@@ -30,7 +30,13 @@ shared-slice-read-if4 c = search needs
 
 returns-4 : tie.Need-returns-4
 unfolding administratorCall guard part
-returns-4 c = rw (eq-eqb _ _ (c .before .before .before .before .before .if1 .left), eq-eqb _ _ (c .before .before .before .before .if2 .left), (sym (c .before .before .before .administrator-plain .ensures) ∙ not-false _ (c .before .before .if3 .left)), ne-eqb _ _ (c .if4 .taken))
+returns-4 c =
+    rw (
+      eq-eqb _ _ (c .before .before .before .before .before .if1 .left),
+      eq-eqb _ _ (c .before .before .before .before .if2 .left),
+      (sym (c .before .before .before .administrator-plain .ensures) ∙ not-false _ (c .before .before .if3 .left)),
+      ne-eqb _ _ (c .if4 .taken),
+    )
 
 add-view-plain : tie.Need-add-view-plain
 add-view-plain c = search needs
@@ -49,7 +55,15 @@ view-plain-requires c κs = search needs
 
 returns-5 : tie.Need-returns-5
 unfolding administratorCall guard part
-returns-5 c = rw (eq-eqb _ _ (c .before .before .before .before .before .before .before .before .if1 .left), eq-eqb _ _ (c .before .before .before .before .before .before .before .if2 .left), (sym (c .before .before .before .before .before .before .administrator-plain .ensures) ∙ not-false _ (c .before .before .before .before .before .if3 .left)), eq-eqb _ _ (c .before .before .before .if4 .left), (sym (c .before .view-plain .ensures) ∙ not-true _ (c .if5 .taken)))
+returns-5 c =
+    rw (
+      eq-eqb _ _ (c .before .before .before .before .before .before .before .before .if1 .left),
+      eq-eqb _ _ (c .before .before .before .before .before .before .before .if2 .left),
+      (sym (c .before .before .before .before .before .before .administrator-plain .ensures) ∙ not-false _ (c .before .before .before .before .before .if3 .left)),
+      eq-eqb _ _
+          (c .before .before .before .if4 .left),
+      (sym (c .before .view-plain .ensures) ∙ not-true _ (c .if5 .taken)),
+    )
 
 read-administrator-requires : tie.Need-read-administrator-requires
 read-administrator-requires c κs = search needs

@@ -42,7 +42,13 @@ entry-plain-requires c κs = search needs
 
 returns-4 : tie.Need-returns-4
 unfolding clientCall guard part
-returns-4 c = rw (eq-eqb _ _ (c .before .before .before .before .before .before .if1 .left), eq-eqb _ _ (c .before .before .before .before .before .if2 .left), (sym (c .before .before .before .before .client-plain .ensures) ∙ not-false _ (c .before .before .before .if3 .left)), (sym (c .before .entry-plain .ensures) ∙ not-true _ (c .if4 .taken)))
+returns-4 c =
+    rw (
+      eq-eqb _ _ (c .before .before .before .before .before .before .if1 .left),
+      eq-eqb _ _ (c .before .before .before .before .before .if2 .left),
+      (sym (c .before .before .before .before .client-plain .ensures) ∙ not-false _ (c .before .before .before .if3 .left)),
+      (sym (c .before .entry-plain .ensures) ∙ not-true _ (c .if4 .taken)),
+    )
 
 read-client-requires : tie.Need-read-client-requires
 read-client-requires c κs = search needs

@@ -30,7 +30,13 @@ shared-slice-read-if4 c = search needs
 
 returns-4 : tie.Need-returns-4
 unfolding serverCall guard part
-returns-4 c = rw (eq-eqb _ _ (c .before .before .before .before .before .if1 .left), eq-eqb _ _ (c .before .before .before .before .if2 .left), (sym (c .before .before .before .server-plain .ensures) ∙ not-false _ (c .before .before .if3 .left)), ne-eqb _ _ (c .if4 .taken))
+returns-4 c =
+    rw (
+      eq-eqb _ _ (c .before .before .before .before .before .if1 .left),
+      eq-eqb _ _ (c .before .before .before .before .if2 .left),
+      (sym (c .before .before .before .server-plain .ensures) ∙ not-false _ (c .before .before .if3 .left)),
+      ne-eqb _ _ (c .if4 .taken),
+    )
 
 add-message-plain : tie.Need-add-message-plain
 add-message-plain c = search needs
@@ -49,7 +55,15 @@ message-plain-requires c κs = search needs
 
 returns-5 : tie.Need-returns-5
 unfolding serverCall guard part
-returns-5 c = rw (eq-eqb _ _ (c .before .before .before .before .before .before .before .before .if1 .left), eq-eqb _ _ (c .before .before .before .before .before .before .before .if2 .left), (sym (c .before .before .before .before .before .before .server-plain .ensures) ∙ not-false _ (c .before .before .before .before .before .if3 .left)), eq-eqb _ _ (c .before .before .before .if4 .left), (sym (c .before .message-plain .ensures) ∙ not-true _ (c .if5 .taken)))
+returns-5 c =
+    rw (
+      eq-eqb _ _ (c .before .before .before .before .before .before .before .before .if1 .left),
+      eq-eqb _ _ (c .before .before .before .before .before .before .before .if2 .left),
+      (sym (c .before .before .before .before .before .before .server-plain .ensures) ∙ not-false _ (c .before .before .before .before .before .if3 .left)),
+      eq-eqb _ _
+          (c .before .before .before .if4 .left),
+      (sym (c .before .message-plain .ensures) ∙ not-true _ (c .if5 .taken)),
+    )
 
 read-server-requires : tie.Need-read-server-requires
 read-server-requires c κs = search needs
@@ -83,7 +97,18 @@ server-rule-requires c κs = search needs
 
 returns-6 : tie.Need-returns-6
 unfolding serverCall guard part
-returns-6 c = rw (eq-eqb _ _ (c .before .before .before .before .before .before .before .before .before .before .before .before .before .before .before .if1 .left), eq-eqb _ _ (c .before .before .before .before .before .before .before .before .before .before .before .before .before .before .if2 .left), (sym (c .before .before .before .before .before .before .before .before .before .before .before .before .before .server-plain .ensures) ∙ not-false _ (c .before .before .before .before .before .before .before .before .before .before .before .before .if3 .left)), eq-eqb _ _ (c .before .before .before .before .before .before .before .before .before .before .if4 .left), (sym (c .before .before .before .before .before .before .before .before .message-plain .ensures) ∙ not-false _ (c .before .before .before .before .before .before .before .if5 .left))) (c .server-rule .ensures ∙ rw (c .before .before .before .before .before .before .read-server .ensures, c .before .before .before .before .read-message .ensures) refl)
+returns-6 c =
+    rw (
+      eq-eqb _ _ (c .before .before .before .before .before .before .before .before .before .before .before .before .before .before .before .if1 .left),
+      eq-eqb _ _
+          (c .before .before .before .before .before .before .before .before .before .before .before .before .before .before .if2 .left),
+      (sym (c .before .before .before .before .before .before .before .before .before .before .before .before .before .server-plain .ensures) ∙ not-false _
+          (c .before .before .before .before .before .before .before .before .before .before .before .before .if3 .left)),
+      eq-eqb _ _
+          (c .before .before .before .before .before .before .before .before .before .before .if4 .left),
+      (sym (c .before .before .before .before .before .before .before .before .message-plain .ensures) ∙ not-false _ (c .before .before .before .before .before .before .before .if5 .left)),
+    )
+    (c .server-rule .ensures ∙ rw (c .before .before .before .before .before .before .read-server .ensures, c .before .before .before .before .read-message .ensures) refl)
 
 pub server-call-spec : {M : Type 1} → statement M
 server-call-spec = tie.close (tie.spec returns add-if2 returns-2 server-plain-requires returns-3 shared-slice-read-if4 returns-4 add-message-plain sub-message-plain part-message-plain-start part-message-plain-end message-plain-requires returns-5 read-server-requires add-read-message sub-read-message part-read-message-start part-read-message-end read-message-requires shared-slice-read-server-rule shared-slice-read-server-rule-2 shared-slice-read-server-rule-3 server-rule-requires returns-6)

@@ -30,7 +30,12 @@ dropping-requires c κs = search needs
 returns-4 : tie.Need-returns-4
 unfolding droppingRule guard
 returns-4 c =
-    rw (eq-eqb _ _ (c .before .before .before .before .before .before .if1 .left), eq-eqb _ _ (c .before .before .before .before .if2 .left), sym (c .before .before .before .is-empty .ensures) ∙ not-false _ (c .before .before .if3 .left))
+    rw (
+      eq-eqb _ _ (c .before .before .before .before .before .before .if1 .left),
+      eq-eqb _ _ (c .before .before .before .before .if2 .left),
+      sym
+          (c .before .before .before .is-empty .ensures) ∙ not-false _ (c .before .before .if3 .left),
+    )
     (c .dropping .ensures ∙ ap opens (c .before .give-up-rule .ensures))
 
 pub dropping-rule-spec : {M : Type 1} → statement M

@@ -32,15 +32,38 @@ opening-requires c κs = search needs
 
 returns-4 : tie.Need-returns-4
 unfolding operationRule guard
-returns-4 c = rw (ne-eqb _ _ (c .before .before .before .before .before .before .before .if1 .left), eq-eqb _ _ (c .before .before .before .before .before .if2 .left), (sym (c .before .before .before .before .blank .ensures) ∙ not-false _ (c .before .before .before .if3 .left)), eq-eqb _ _ (c .before .before .if4 .taken)) (c .opening .ensures ∙ ap opens (c .before .write-rule .ensures))
+returns-4 c =
+    rw (
+      ne-eqb _ _ (c .before .before .before .before .before .before .before .if1 .left),
+      eq-eqb _ _ (c .before .before .before .before .before .if2 .left),
+      (sym (c .before .before .before .before .blank .ensures) ∙ not-false _ (c .before .before .before .if3 .left)),
+      eq-eqb _ _ (c .before .before .if4 .taken),
+    )
+    (c .opening .ensures ∙ ap opens (c .before .write-rule .ensures))
 
 returns-5 : tie.Need-returns-5
 unfolding operationRule guard
-returns-5 c = rw (ne-eqb _ _ (c .before .before .before .before .before .before .if1 .left), eq-eqb _ _ (c .before .before .before .before .if2 .left), (sym (c .before .before .before .blank .ensures) ∙ not-false _ (c .before .before .if3 .left)), ne-eqb _ _ (c .before .if4 .left), ne-eqb _ _ (c .if5 .taken))
+returns-5 c =
+    rw (
+      ne-eqb _ _ (c .before .before .before .before .before .before .if1 .left),
+      eq-eqb _ _ (c .before .before .before .before .if2 .left),
+      (sym (c .before .before .before .blank .ensures) ∙ not-false _ (c .before .before .if3 .left)),
+      ne-eqb _ _ (c .before .if4 .left),
+      ne-eqb _ _ (c .if5 .taken),
+    )
 
 returns-6 : tie.Need-returns-6
 unfolding operationRule guard
-returns-6 c = rw (ne-eqb _ _ (c .before .before .before .before .before .before .before .before .if1 .left), eq-eqb _ _ (c .before .before .before .before .before .before .if2 .left), (sym (c .before .before .before .before .before .blank .ensures) ∙ not-false _ (c .before .before .before .before .if3 .left)), ne-eqb _ _ (c .before .before .before .if4 .left), eq-eqb _ _ (c .before .before .if5 .left), ne-eqb _ _ (c .if6 .taken))
+returns-6 c =
+    rw (
+      ne-eqb _ _ (c .before .before .before .before .before .before .before .before .if1 .left),
+      eq-eqb _ _ (c .before .before .before .before .before .before .if2 .left),
+      (sym (c .before .before .before .before .before .blank .ensures) ∙ not-false _ (c .before .before .before .before .if3 .left)),
+      ne-eqb _ _
+          (c .before .before .before .if4 .left),
+      eq-eqb _ _ (c .before .before .if5 .left),
+      ne-eqb _ _ (c .if6 .taken),
+    )
 
 read-rule-requires : tie.Need-read-rule-requires
 read-rule-requires c κs = search needs
@@ -50,7 +73,18 @@ opening-requires-2 c κs = search needs
 
 returns-7 : tie.Need-returns-7
 unfolding operationRule guard
-returns-7 c = rw (ne-eqb _ _ (c .before .before .before .before .before .before .before .before .before .before .if1 .left), eq-eqb _ _ (c .before .before .before .before .before .before .before .before .if2 .left), (sym (c .before .before .before .before .before .before .before .blank .ensures) ∙ not-false _ (c .before .before .before .before .before .before .if3 .left)), ne-eqb _ _ (c .before .before .before .before .before .if4 .left), eq-eqb _ _ (c .before .before .before .before .if5 .left), eq-eqb _ _ (c .before .before .if6 .left)) (c .opening2 .ensures ∙ ap opens (c .before .read-rule .ensures))
+returns-7 c =
+    rw (
+      ne-eqb _ _ (c .before .before .before .before .before .before .before .before .before .before .if1 .left),
+      eq-eqb _ _
+          (c .before .before .before .before .before .before .before .before .if2 .left),
+      (sym (c .before .before .before .before .before .before .before .blank .ensures) ∙ not-false _ (c .before .before .before .before .before .before .if3 .left)),
+      ne-eqb _ _
+          (c .before .before .before .before .before .if4 .left),
+      eq-eqb _ _ (c .before .before .before .before .if5 .left),
+      eq-eqb _ _ (c .before .before .if6 .left),
+    )
+    (c .opening2 .ensures ∙ ap opens (c .before .read-rule .ensures))
 
 pub operation-rule-spec : {M : Type 1} → statement M
 operation-rule-spec = tie.close (tie.spec close-rule-requires returns returns-2 blank-requires returns-3 write-rule-requires opening-requires returns-4 returns-5 returns-6 read-rule-requires opening-requires-2 returns-7)

@@ -30,11 +30,27 @@ false-answer-rule-requires c κs = search needs
 
 returns-5 : tie.Need-returns-5
 unfolding serverRule guard
-returns-5 c = rw (le-leb _ _ (c .before .before .before .before .if1 .left), ne-eqb _ _ (c .before .before .before .if2 .left), eq-eqb _ _ (c .before .before .if4 .left), sym (c .before .false-answer-rule .ensures), ne-eqb _ _ (c .if5 .taken))
+returns-5 c =
+    rw (
+      le-leb _ _ (c .before .before .before .before .if1 .left),
+      ne-eqb _ _ (c .before .before .before .if2 .left),
+      eq-eqb _ _ (c .before .before .if4 .left),
+      sym
+          (c .before .false-answer-rule .ensures),
+      ne-eqb _ _ (c .if5 .taken),
+    )
 
 returns-6 : tie.Need-returns-6
 unfolding serverRule guard
-returns-6 c = rw (le-leb _ _ (c .before .before .before .before .if1 .left), ne-eqb _ _ (c .before .before .before .if2 .left), eq-eqb _ _ (c .before .before .if4 .left), sym (c .before .false-answer-rule .ensures), eq-eqb _ _ (c .if5 .left))
+returns-6 c =
+    rw (
+      le-leb _ _ (c .before .before .before .before .if1 .left),
+      ne-eqb _ _ (c .before .before .before .if2 .left),
+      eq-eqb _ _ (c .before .before .if4 .left),
+      sym
+          (c .before .false-answer-rule .ensures),
+      eq-eqb _ _ (c .if5 .left),
+    )
 
 pub server-rule-spec : {M : Type 1} → statement M
 server-rule-spec = tie.close (tie.spec returns returns-2 serve-rule-requires returns-3 returns-4 false-answer-rule-requires returns-5 returns-6)

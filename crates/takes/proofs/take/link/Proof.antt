@@ -44,7 +44,8 @@ returns c =
     let c4 = c3 .before .before in
     let c5 = c4 .before .before .before in
     let c6 = c5 .before .before .before in
-    linked-image (c6 .pre) _ (c5 .load-message .ensures) _ (c4 .load-message2 .ensures) _ _ (c3 .linked .ensures) (c2 .linked2 .ensures) (c1 .store-message .ensures) (c .before .before .store-message2 .ensures)
+    linked-image (c6 .pre) _ (c5 .load-message .ensures) _ (c4 .load-message2 .ensures) _ _ (c3 .linked .ensures) (c2 .linked2 .ensures) (c1 .store-message .ensures)
+    (c .before .before .store-message2 .ensures)
 
 pub link-spec : {M : Type 1} → statement M
 link-spec =

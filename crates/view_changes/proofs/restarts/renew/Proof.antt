@@ -35,7 +35,8 @@ returns-2 : tie.Need-returns-2
 returns-2 c =
     let s = c .before .before .before .before .before .before .before .before in
     let e = s .before .before .before .before in
-    restarted-new (e .before .before .before .before .before .pre) (e .empty .ensures) (s .store-administrator .ensures) (c .before .before .before .before .if1 .left) (c .before .before .store-view .ensures)
+    restarted-new (e .before .before .before .before .before .pre) (e .empty .ensures) (s .store-administrator .ensures) (c .before .before .before .before .if1 .left)
+    (c .before .before .store-view .ensures)
 
 pub renew-spec : {M : Type 1} → statement M
 renew-spec =

@@ -37,8 +37,10 @@ same-length c = search needs
 returns : tie.Need-returns
 returns c =
     let d = c .before .before .before .before .before .before .before .before .before .before in
-    begins-full (d .pre .0) (d .args .c) (d .args .kind) (d .args .value) (d .pre .1) (d .pre .2) (c .before .before .before .before .before .load-client .result) (c .before .before .before .before .before .before .before .load-used .result) (c .before .before .before .before .begin .result)
-    (c .before .before .before .before .before .load-client .ensures) (c .before .before .before .before .before .before .before .load-used .ensures) (c .before .before .before .before .begin .ensures) _ (c .before .before .begun2 .given .1) (c .if1 .taken)
+    begins-full (d .pre .0) (d .args .c) (d .args .kind) (d .args .value) (d .pre .1) (d .pre .2) (c .before .before .before .before .before .load-client .result)
+    (c .before .before .before .before .before .before .before .load-used .result) (c .before .before .before .before .begin .result)
+    (c .before .before .before .before .before .load-client .ensures) (c .before .before .before .before .before .before .before .load-used .ensures)
+    (c .before .before .before .before .begin .ensures) _ (c .before .before .begun2 .given .1) (c .if1 .taken)
 
 entry-of-requires : tie.Need-entry-of-requires
 entry-of-requires c κs = search needs
@@ -51,8 +53,11 @@ store-client-requires c κs = let d = c .before .before .before .before .before 
 
 send-requires : tie.Need-send-requires
 send-requires c κs =
-    let d = c .before .before .before .before .before .before .before .before .before .before .before .before .before .before .before .before .before in
-    (ap length (c .before .before .before .store-client .ensures) ∙ size-client (d .pre .0) (d .args .c) (d .pre .1) (d .pre .2) _, omega (arith, c .before .before .before .before .before .before .before .if1 .left))
+    let d = c .before .before .before .before .before .before .before .before .before .before .before .before .before .before .before .before .before in (
+      ap length (c .before .before .before .store-client .ensures) ∙ size-client (d .pre .0) (d .args .c) (d .pre .1) (d .pre .2) _,
+      omega
+          (arith, c .before .before .before .before .before .before .before .if1 .left),
+    )
 
 same-length-2 : tie.Need-same-length-2
 same-length-2 c = search needs
@@ -60,8 +65,10 @@ same-length-2 c = search needs
 returns-2 : tie.Need-returns-2
 returns-2 c =
     let d = c .before .before .before .before .before .before .before .before .before in
-    begins-no (d .pre .0) (d .args .c) (d .args .kind) (d .args .value) (d .pre .1) (d .pre .2) (c .before .before .before .before .load-client .result) (c .before .before .before .before .before .before .load-used .result) (c .before .before .before .begin .result)
-    (c .before .before .before .before .load-client .ensures) (c .before .before .before .before .before .before .load-used .ensures) (c .before .before .before .begin .ensures) _ (c .before .begun .given .1)
+    begins-no (d .pre .0) (d .args .c) (d .args .kind) (d .args .value) (d .pre .1) (d .pre .2) (c .before .before .before .before .load-client .result)
+    (c .before .before .before .before .before .before .load-used .result) (c .before .before .before .begin .result)
+    (c .before .before .before .before .load-client .ensures) (c .before .before .before .before .before .before .load-used .ensures) (c .before .before .before .begin .ensures) _
+    (c .before .begun .given .1)
 
 same-length-3 : tie.Need-same-length-3
 same-length-3 c = search needs
@@ -69,11 +76,19 @@ same-length-3 c = search needs
 returns-3 : tie.Need-returns-3
 returns-3 c =
     let d = c .before .before .before .before .before .before .before .before .before .before .before .before .before .before .before .before .before .before .before .before in
-    begins-done (d .pre .0) (d .args .c) (d .args .kind) (d .args .value) (d .pre .1) (d .pre .2) (c .before .before .before .before .before .before .before .before .before .before .before .before .before .before .before .load-client .result) (c .before .before .before .before .before .before .before .before .before .before .before .before .before .before .before .before .before .load-used .result) (c .before .before .before .before .before .before .before .before .before .before .before .before .before .before .begin .result)
-    (c .before .before .before .before .before .before .before .before .before .before .before .before .before .before .before .load-client .ensures) (c .before .before .before .before .before .before .before .before .before .before .before .before .before .before .before .before .before .load-used .ensures) (c .before .before .before .before .before .before .before .before .before .before .before .before .before .before .begin .ensures) _ _ (c .before .before .before .before .before .before .before .before .before .before .before .before .begun2 .given .1) (c .before .before .before .before .before .before .before .before .before .before .if1 .left)
+    begins-done (d .pre .0) (d .args .c) (d .args .kind) (d .args .value) (d .pre .1) (d .pre .2)
+    (c .before .before .before .before .before .before .before .before .before .before .before .before .before .before .before .load-client .result)
+    (c .before .before .before .before .before .before .before .before .before .before .before .before .before .before .before .before .before .load-used .result)
+    (c .before .before .before .before .before .before .before .before .before .before .before .before .before .before .begin .result)
+    (c .before .before .before .before .before .before .before .before .before .before .before .before .before .before .before .load-client .ensures)
+    (c .before .before .before .before .before .before .before .before .before .before .before .before .before .before .before .before .before .load-used .ensures)
+    (c .before .before .before .before .before .before .before .before .before .before .before .before .before .before .begin .ensures) _ _
+    (c .before .before .before .before .before .before .before .before .before .before .before .before .begun2 .given .1)
+    (c .before .before .before .before .before .before .before .before .before .before .if1 .left)
     (c .before .before .send .ensures
     ∙ ap₂ (λ (i : List ℕ) (m : Message). putSent i (c .before .before .before .before .before .before .before .before .before .before .before .before .before .before .before .before .before .load-used .result + 1) m) (c .before .before .before .before .before .before .store-client .ensures)
-    (c .before .before .before .before .before .before .before .before .request .ensures ∙ ap (request READ (d .args .c) 0) (c .before .before .before .before .before .before .before .before .before .entry-of .ensures)))
+    (c .before .before .before .before .before .before .before .before .request .ensures ∙ ap (request READ (d .args .c) 0)
+    (c .before .before .before .before .before .before .before .before .before .entry-of .ensures)))
 
 pub begins-spec : {M : Type 1} → statement M
 begins-spec =

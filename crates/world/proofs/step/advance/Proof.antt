@@ -15,10 +15,13 @@ fields-fit-requires : tie.Need-fields-fit-requires
 fields-fit-requires c κs = search needs
 
 returns : tie.Need-returns
-returns c = by (ap (step (decode (c .before .before .before .before .before .args .image .now))) (sym (c .before .before .read-step .ensures))) (unfit (c .before .before .read-step .result) (sym (c .before .fields-fit .ensures) ∙ not-true (c .before .fields-fit .result) (c .if1 .taken)))
+returns c =
+    by (ap (step (decode (c .before .before .before .before .before .args .image .now))) (sym (c .before .before .read-step .ensures)))
+    (unfit (c .before .before .read-step .result) (sym (c .before .fields-fit .ensures) ∙ not-true (c .before .fields-fit .result) (c .if1 .taken)))
 
 perform-requires : tie.Need-perform-requires
-perform-requires c κs = (c .before .before .before .before .before .before .pre .0, sym (c .before .before .fields-fit .ensures) ∙ not-false (c .before .before .fields-fit .result) (c .before .if1 .left))
+perform-requires c κs =
+    (c .before .before .before .before .before .before .pre .0, sym (c .before .before .fields-fit .ensures) ∙ not-false (c .before .before .fields-fit .result) (c .before .if1 .left))
 
 same-length : tie.Need-same-length
 same-length c = search needs
@@ -27,7 +30,8 @@ returns-2 : tie.Need-returns-2
 returns-2 c =
     by
     (ap (step (decode (c .before .before .before .before .before .before .before .before .before .args .image .now))) (sym (c .before .before .before .before .before .before .read-step .ensures))
-    ∙ fit (decode (c .before .before .before .before .before .before .before .before .before .args .image .now)) (c .before .before .before .before .before .before .read-step .result) (sym (c .before .before .before .before .before .fields-fit .ensures) ∙ not-false (c .before .before .before .before .before .fields-fit .result) (c .before .before .before .before .if1 .left)))
+    ∙ fit (decode (c .before .before .before .before .before .before .before .before .before .args .image .now)) (c .before .before .before .before .before .before .read-step .result)
+    (sym (c .before .before .before .before .before .fields-fit .ensures) ∙ not-false (c .before .before .before .before .before .fields-fit .result) (c .before .before .before .before .if1 .left)))
     (c .before .before .perform .ensures)
 
 pub advance-spec : {M : Type 1} → statement M

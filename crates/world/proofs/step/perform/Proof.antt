@@ -29,7 +29,9 @@ fault-requires c κs = let d = c .before .before .before .before .before .before
 
 false-answer-requires : tie.Need-false-answer-requires
 unfolding rowOf
-false-answer-requires c κs = let d = c .before .before .before .before .before .before in let i = who-server (d .args .st) 6 (d .pre .1) (c .before .match .keys6) refl refl in (d .pre .0, i .low, i .high, source-of (d .args .st) (d .pre .1))
+false-answer-requires c κs =
+    let d = c .before .before .before .before .before .before in let i = who-server (d .args .st) 6 (d .pre .1) (c .before .match .keys6) refl refl in
+    (d .pre .0, i .low, i .high, source-of (d .args .st) (d .pre .1))
 
 view-asked-requires : tie.Need-view-asked-requires
 view-asked-requires c κs = search needs
@@ -51,37 +53,49 @@ same-length : tie.Need-same-length
 same-length c = search needs
 
 returns : tie.Need-returns
-returns c = let d = c .before .before .before .before .before .before .before .before .before in by (as-write (decode (d .args .image .now)) (d .args .st) (c .before .before .before .before .match .keys1)) (c .before .before .begins .ensures)
+returns c =
+    let d = c .before .before .before .before .before .before .before .before .before in by
+    (as-write (decode (d .args .image .now)) (d .args .st) (c .before .before .before .before .match .keys1)) (c .before .before .begins .ensures)
 
 same-length-2 : tie.Need-same-length-2
 same-length-2 c = search needs
 
 returns-2 : tie.Need-returns-2
-returns-2 c = let d = c .before .before .before .before .before .before .before .before .before in by (as-read (decode (d .args .image .now)) (d .args .st) (c .before .before .before .before .match .keys2)) (c .before .before .begins2 .ensures)
+returns-2 c =
+    let d = c .before .before .before .before .before .before .before .before .before in by
+    (as-read (decode (d .args .image .now)) (d .args .st) (c .before .before .before .before .match .keys2)) (c .before .before .begins2 .ensures)
 
 same-length-3 : tie.Need-same-length-3
 same-length-3 c = search needs
 
 returns-3 : tie.Need-returns-3
-returns-3 c = let d = c .before .before .before .before .before .before .before .before .before in by (as-deliver (decode (d .args .image .now)) (d .args .st) (c .before .before .before .before .match .keys3)) (c .before .before .deliver .ensures)
+returns-3 c =
+    let d = c .before .before .before .before .before .before .before .before .before in by
+    (as-deliver (decode (d .args .image .now)) (d .args .st) (c .before .before .before .before .match .keys3)) (c .before .before .deliver .ensures)
 
 same-length-4 : tie.Need-same-length-4
 same-length-4 c = search needs
 
 returns-4 : tie.Need-returns-4
-returns-4 c = let d = c .before .before .before .before .before .before .before .before .before in by (as-take (decode (d .args .image .now)) (d .args .st) (c .before .before .before .before .match .keys4)) (c .before .before .take .ensures)
+returns-4 c =
+    let d = c .before .before .before .before .before .before .before .before .before in by
+    (as-take (decode (d .args .image .now)) (d .args .st) (c .before .before .before .before .match .keys4)) (c .before .before .take .ensures)
 
 same-length-5 : tie.Need-same-length-5
 same-length-5 c = search needs
 
 returns-5 : tie.Need-returns-5
-returns-5 c = let d = c .before .before .before .before .before .before .before .before .before in by (as-fault (decode (d .args .image .now)) (d .args .st) (c .before .before .before .before .match .keys5)) (c .before .before .fault .ensures)
+returns-5 c =
+    let d = c .before .before .before .before .before .before .before .before .before in by
+    (as-fault (decode (d .args .image .now)) (d .args .st) (c .before .before .before .before .match .keys5)) (c .before .before .fault .ensures)
 
 same-length-6 : tie.Need-same-length-6
 same-length-6 c = search needs
 
 returns-6 : tie.Need-returns-6
-returns-6 c = let d = c .before .before .before .before .before .before .before .before .before in by (as-false (decode (d .args .image .now)) (d .args .st) (c .before .before .before .before .match .keys6)) (c .before .before .false-answer .ensures)
+returns-6 c =
+    let d = c .before .before .before .before .before .before .before .before .before in by
+    (as-false (decode (d .args .image .now)) (d .args .st) (c .before .before .before .before .match .keys6)) (c .before .before .false-answer .ensures)
 
 same-length-7 : tie.Need-same-length-7
 same-length-7 c = search needs
@@ -90,7 +104,8 @@ returns-7 : tie.Need-returns-7
 returns-7 c =
     let a = c .before .before .before in
     let d = a .before .before .before .before .before .before .before in
-    by (as-view (decode (d .args .image .now)) (d .args .st) (a .before .before .match .keys7) ∙ ap (newView (decode (d .args .image .now))) (sym (a .view-asked .ensures))) (c .before .before .new-view .ensures)
+    by (as-view (decode (d .args .image .now)) (d .args .st) (a .before .before .match .keys7) ∙ ap (newView (decode (d .args .image .now))) (sym (a .view-asked .ensures)))
+    (c .before .before .new-view .ensures)
 
 same-length-8 : tie.Need-same-length-8
 same-length-8 c = search needs

@@ -19,16 +19,25 @@ same-length : tie.Need-same-length
 same-length c = search needs
 
 returns-3 : tie.Need-returns-3
-returns-3 c = let a = c .before .before .before .before .before .before .before .args in unreadable (a .image .now) (a .bytes .now) (c .before .before .before .before .if1 .left) (c .before .before .before .if2 .left) (sym (c .before .readable .ensures) ∙ not-true (c .before .readable .result) (c .if3 .taken))
+returns-3 c =
+    let a = c .before .before .before .before .before .before .before .args in unreadable (a .image .now) (a .bytes .now) (c .before .before .before .before .if1 .left)
+    (c .before .before .before .if2 .left) (sym (c .before .readable .ensures) ∙ not-true (c .before .readable .result) (c .if3 .taken))
 
 advance-requires : tie.Need-advance-requires
-advance-requires c κs = let a = c .before .before .before .before .before .before .before .before .args in (legible (a .image .now) (sym (c .before .before .readable .ensures) ∙ not-false (c .before .before .readable .result) (c .before .if3 .left)), c .before .before .before .before .if2 .left)
+advance-requires c κs =
+    let a = c .before .before .before .before .before .before .before .before .args in
+    (legible (a .image .now) (sym (c .before .before .readable .ensures) ∙ not-false (c .before .before .readable .result) (c .before .if3 .left)), c .before .before .before .before .if2 .left)
 
 same-length-2 : tie.Need-same-length-2
 same-length-2 c = search needs
 
 returns-4 : tie.Need-returns-4
-returns-4 c = let a = c .before .before .before .before .before .before .before .before .before .before .before .args in by (whole-step (a .image .now) (a .bytes .now) (c .before .before .before .before .before .before .before .before .if1 .left) (c .before .before .before .before .before .before .before .if2 .left) (sym (c .before .before .before .before .before .readable .ensures) ∙ not-false (c .before .before .before .before .before .readable .result) (c .before .before .before .before .if3 .left))) (c .before .before .advance .ensures)
+returns-4 c =
+    let a = c .before .before .before .before .before .before .before .before .before .before .before .args in by
+    (whole-step (a .image .now) (a .bytes .now) (c .before .before .before .before .before .before .before .before .if1 .left)
+    (c .before .before .before .before .before .before .before .if2 .left)
+    (sym (c .before .before .before .before .before .readable .ensures) ∙ not-false (c .before .before .before .before .before .readable .result)
+    (c .before .before .before .before .if3 .left))) (c .before .before .advance .ensures)
 
 pub step-spec : {M : Type 1} → statement M
 step-spec =

@@ -1,0 +1,10 @@
+pub mod Layout
+pub mod Records
+pub mod Rules
+pub mod Calls
+pub mod Ways
+pub mod Lists
+pub mod Same
+pub mod Along
+pub mod Examples
+pub mod Refusals
