@@ -1,4 +1,6 @@
 // The rules of the administrator.
+#![tactic(auto)]
+
 ghost use Rattle.std.specs.Prelude.{◌≡◌};
 ghost use Rattle.protocol.specs.Clients.{is_ending, end_of, call, restart, called};
 ghost use Rattle.administrator_rules.specs.Advances.{advance_in};

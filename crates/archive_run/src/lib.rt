@@ -1,4 +1,6 @@
 // The program: standard input to lines.
+#![tactic(auto)]
+
 pub mod turns;
 
 ghost use Rattle.mail.specs.Images.{Legible};
@@ -10,14 +12,14 @@ use lines::{LINE, done_line};
 use turns::{Moved, first, turn};
 
 // What a turn left to do: the next one, or the last line with the refusal of the stop or 0.
-#[derive(Drop)]
+#[derive(Clone, Copy)]
 enum Onward {
     More,
     Stop(u8),
 }
 
 // What the last line tells: the steps accepted, and the refusal of the stop or 0.
-#[derive(Drop)]
+#[derive(Clone, Copy)]
 struct Ended {
     steps: u64,
     refusal: u8,

@@ -18,7 +18,7 @@ use protocol::limits::CLIENTS;
 use world::step::advance;
 
 // A stop by its refusal, or the length of the line that a step leaves, 0 for none.
-#[derive(Drop)]
+#[derive(Clone, Copy)]
 pub enum Moved {
     Stopped(u8),
     Went(usize),

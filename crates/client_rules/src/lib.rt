@@ -1,4 +1,6 @@
 // The rules of one client.
+#![tactic(auto)]
+
 ghost use Rattle.std.specs.Prelude.{◌≡◌, true, ◌+◌, ◌≤◌};
 ghost use Rattle.protocol.specs.Sizes.{last_count};
 ghost use Rattle.protocol.specs.Tools.{if, done};

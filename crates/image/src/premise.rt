@@ -17,7 +17,7 @@ use protocol::refusals::{UNREADABLE, WRONG_LENGTH};
 use readable::readable::readable;
 
 // A refusal, or whether no view has more faulty key holders than its threshold.
-#[derive(Drop)]
+#[derive(Clone, Copy)]
 pub enum Report {
     Refused(u8),
     Holds,

@@ -1,4 +1,6 @@
 // The program: a log on standard input to the lines of its order.
+#![tactic(auto)]
+
 pub mod text;
 
 use codec::bytes::get16;

@@ -1,4 +1,6 @@
 // Logs of other archive software: whether the operations of a log have an order, and which.
+#![tactic(auto)]
+
 pub mod formed;
 pub mod judge;
 pub mod log;
@@ -8,7 +10,7 @@ pub mod sort;
 use protocol::Entry;
 
 // A line of a log: an operation's begin number, end number (0, unfinished), kind and entry.
-#[derive(Drop)]
+#[derive(Clone, Copy)]
 pub struct Logged {
     pub begin: u16,
     pub end: u16,
@@ -17,7 +19,7 @@ pub struct Logged {
 }
 
 // A refusal, or the number of operations in the order that is shown.
-#[derive(Drop)]
+#[derive(Clone, Copy)]
 pub enum Judgement {
     JudgeRefused(u8),
     InOrder(u16),

@@ -1,4 +1,6 @@
 // The faulty key holders of each view: the full count, and the bytes that keep it.
+#![tactic(auto)]
+
 ghost use Rattle.std.specs.Prelude.{true, ◌≡◌, ◌≤◌, length};
 ghost use Rattle.protocol.specs.Tools.{bit, count_to, all_to};
 ghost use Rattle.protocol.specs.Sizes.{servers, views};

@@ -1,4 +1,6 @@
 // The lines of the program, as bytes of a lent buffer.
+#![tactic(auto)]
+
 ghost use Rattle.std.specs.Prelude.{◌≡◌, ◌+◌, ◌≤◌, length};
 ghost use Rattle.codec.specs.Lists.{put};
 ghost use Rattle.lines.specs.Lines.{digits, number_then, letter_of, operation_line, done_line, line_width};

@@ -1,5 +1,7 @@
 // The program: from a seed and a number of steps, 8 bytes of standard input (u32 each, little-endian), the journal of that load on
 // standard output.
+#![tactic(auto)]
+
 ghost use Rattle.std.specs.Prelude.{◌≡◌, ◌*◌, ◌≤◌, ◌<◌, length};
 ghost use Rattle.protocol.specs.Runs.{step_width};
 ghost use Rattle.loads.specs.Load.{load_from};
@@ -12,7 +14,7 @@ use loads::journal::{STEP, fill};
 const PIECE: u32 = 341;
 
 // The state after a piece, and whether it was written.
-#[derive(Drop)]
+#[derive(Clone, Copy)]
 struct Written {
     state: u32,
     whole: bool,

@@ -1,4 +1,6 @@
 // What the steps of a world share: a step's answer, and the messages of an image, made, found and sent.
+#![tactic(auto)]
+
 ghost use Rattle.std.specs.Prelude.{◌≡◌, ◌≤◌, length};
 ghost use Rattle.protocol.specs.Sizes.{messages};
 ghost use Rattle.protocol.specs.Worlds.{present as is_present};
@@ -12,7 +14,7 @@ use protocol::kinds::ANSWER;
 use protocol::{Entry, Message, MessageNumber, ServerNumber, Shown, ViewNumber};
 
 // A step's answer: a refusal, or the client whose operation it completed, or 0.
-#[derive(Drop)]
+#[derive(Clone, Copy)]
 pub enum Stepped {
     StepRefused(u8),
     StepDone(u8),

@@ -22,7 +22,7 @@ use values::sizes;
 use values::tally::Tally;
 
 // An answer given to a phase: a refusal, the phase is still open, or it is closed, and whether a read may end with it.
-#[derive(Drop)]
+#[derive(Clone, Copy)]
 pub enum AnswerGiven {
     GivenRefused(u8),
     StillOpen,

@@ -20,7 +20,7 @@ use values::entries;
 use values::tally::Tally;
 
 // What is open: the kind of its request, the view that END ends, and the request's number; all 0 where nothing is.
-#[derive(Drop)]
+#[derive(Clone, Copy)]
 pub struct Head {
     pub kind: u8,
     pub view: ViewNumber,

@@ -1,43 +1,45 @@
 // The records of the protocol. The rules on them are the definitions in specs/.
+#![tactic(auto)]
+
 pub mod kinds;
 pub mod limits;
 pub mod refusals;
 
 // Four counters, counted apart.
-#[derive(Drop)]
+#[derive(Clone, Copy)]
 pub struct StampCount(pub u32);
 
-#[derive(Drop)]
+#[derive(Clone, Copy)]
 pub struct ViewNumber(pub u8);
 
-#[derive(Drop)]
+#[derive(Clone, Copy)]
 pub struct MessageNumber(pub u16);
 
-#[derive(Drop)]
+#[derive(Clone, Copy)]
 pub struct ServerNumber(pub u8);
 
 // Two sets of numbers as bits, not of one type: the servers of a view, server s at bit s-1, and the keys of a server, key t at bit t-1.
-#[derive(Drop)]
+#[derive(Clone, Copy)]
 pub struct ServerSet(pub u32);
 
-#[derive(Drop)]
+#[derive(Clone, Copy)]
 pub struct KeySet(pub u32);
 
 // Compared by count, then writer.
-#[derive(Drop)]
+#[derive(Clone, Copy)]
 pub struct Stamp {
     pub count: StampCount,
     pub writer: u8,
 }
 
-#[derive(Drop)]
+#[derive(Clone, Copy)]
 pub struct Entry {
     pub stamp: Stamp,
     pub value: u32,
 }
 
 // A view: its server set, its threshold and its read size, 0 for that of a quorum.
-#[derive(Drop)]
+#[derive(Clone, Copy)]
 pub struct View {
     pub members: ServerSet,
     pub f: u8,
@@ -45,7 +47,7 @@ pub struct View {
 }
 
 // A server's record.
-#[derive(Drop)]
+#[derive(Clone, Copy)]
 pub struct Server {
     pub view: ViewNumber,
     pub faulty: bool,
@@ -54,7 +56,7 @@ pub struct Server {
 }
 
 // An open phase carries its request's number.
-#[derive(Drop)]
+#[derive(Clone, Copy)]
 pub enum Phase {
     Idle,
     Reading(MessageNumber),
@@ -62,7 +64,7 @@ pub enum Phase {
 }
 
 // A client's record; kind is 0 none yet, 1 write, 2 read; given is the largest count that it ever gave a write of its own.
-#[derive(Drop)]
+#[derive(Clone, Copy)]
 pub struct Client {
     pub phase: Phase,
     pub kind: u8,
@@ -71,21 +73,21 @@ pub struct Client {
 }
 
 // Whether the newest view is being ended, and by which END.
-#[derive(Drop)]
+#[derive(Clone, Copy)]
 pub enum Ending {
     Settled,
     EndSent(MessageNumber),
 }
 
 // The administrator's record.
-#[derive(Drop)]
+#[derive(Clone, Copy)]
 pub struct Administrator {
     pub newest: ViewNumber,
     pub ending: Ending,
 }
 
 // A message: kind 1 READ, 2 WRITE, 3 END, 4 START, 5 answer.
-#[derive(Drop)]
+#[derive(Clone, Copy)]
 pub struct Message {
     pub kind: u8,
     pub sender: u8,
@@ -97,7 +99,7 @@ pub struct Message {
 }
 
 // A step: kind 1 write, 2 read, 3 deliver, 4 take, 5 fault, 6 false answer, 7 new view, 8 giving up, 9 the administrator restarted.
-#[derive(Drop)]
+#[derive(Clone, Copy)]
 pub struct Step {
     pub kind: u8,
     pub who: u8,
@@ -109,28 +111,28 @@ pub struct Step {
 }
 
 // The values that a used field of a step may have.
-#[derive(Drop)]
+#[derive(Clone, Copy)]
 pub struct Range {
     pub low: u32,
     pub high: u32,
 }
 
 // What an answer shows: its server's view and entry.
-#[derive(Drop)]
+#[derive(Clone, Copy)]
 pub struct Shown {
     pub view: ViewNumber,
     pub entry: Entry,
 }
 
 // A server that answers: its record after it, and the answer.
-#[derive(Drop)]
+#[derive(Clone, Copy)]
 pub struct Replied {
     pub server: Server,
     pub shown: Shown,
 }
 
 // A server's rule: a refusal, its record after it, or that and an answer.
-#[derive(Drop)]
+#[derive(Clone, Copy)]
 pub enum Served {
     ServeRefused(u8),
     Kept(Server),
@@ -138,35 +140,35 @@ pub enum Served {
 }
 
 // A client begins an operation: a refusal, or its record with the phase open.
-#[derive(Drop)]
+#[derive(Clone, Copy)]
 pub enum Begun {
     BeginRefused(u8),
     Began(Client),
 }
 
 // What answers of one view show: the entry chosen of them, and whether all carry it.
-#[derive(Drop)]
+#[derive(Clone, Copy)]
 pub struct Choice {
     pub entry: Entry,
     pub one: bool,
 }
 
 // The answer either closes its phase, with what is chosen, or leaves it open.
-#[derive(Drop)]
+#[derive(Clone, Copy)]
 pub enum Taken {
     Open,
     Closed(Choice),
 }
 
 // A client gives its operation up: a refusal, or its record with the phase idle.
-#[derive(Drop)]
+#[derive(Clone, Copy)]
 pub enum GivenUp {
     GiveUpRefused(u8),
     GaveUp(Client),
 }
 
 // A client's phase closes: a refusal, a WRITE of its entry is next, or its operation is complete.
-#[derive(Drop)]
+#[derive(Clone, Copy)]
 pub enum Closing {
     CloseRefused(u8),
     WritesNext(Client),
@@ -174,7 +176,7 @@ pub enum Closing {
 }
 
 // What the administrator does: a refusal, or its record after it. A new view called, a restart, END closed.
-#[derive(Drop)]
+#[derive(Clone, Copy)]
 pub enum Called {
     CallRefused(u8),
     Calling(Administrator),

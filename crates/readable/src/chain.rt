@@ -18,7 +18,7 @@ use protocol::limits::MESSAGES;
 
 // A chain: the links followed until zero, or none where a link is no taken answer of the request or zero is not reached
 // within the links allowed.
-#[derive(Drop)]
+#[derive(Clone, Copy)]
 pub enum Followed {
     Whole(u16),
     Broken,

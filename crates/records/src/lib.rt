@@ -1,4 +1,6 @@
 // The tests of single records that need no image. `newest` is the newest view of an image, and 32 for a host that knows none.
+#![tactic(auto)]
+
 ghost use Rattle.std.specs.Prelude.{◌≡◌, ◌^◌, ltb};
 ghost use Rattle.protocol.specs.Tools.{within};
 ghost use Rattle.protocol.specs.Readable.{view_rule, key_rule, server_rule, client_range, idle_rule, kind_rule, asking_rule, reading_rule};

@@ -1,4 +1,6 @@
 // The rules of one server.
+#![tactic(auto)]
+
 ghost use Rattle.std.specs.Prelude.{◌≡◌, ◌≤◌};
 ghost use Rattle.protocol.specs.Tools.{number_of};
 ghost use Rattle.protocol.specs.Servers.{comparing, replacing, acknowledging, without_key, joining, gathering, write, start, as_reply, served, may_answer};

@@ -1,8 +1,10 @@
 // The short journal behind a refusal.
+#![tactic(auto)]
+
 pub mod shorten;
 
 // The refusal, or the number of steps of the short journal.
-#[derive(Drop)]
+#[derive(Clone, Copy)]
 pub enum Shortened {
     ShortenRefused(u8),
     ShortenDone(usize),

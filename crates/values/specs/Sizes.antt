@@ -1,12 +1,12 @@
 -- Both sizes as an answer, the bound on a view's size, and the ways out of the functions of sizes. Assumes nothing.
-use Rattle.std.specs.Prelude.{ℕ, ◌+◌, ◌*◌, ◌/◌, ◌-◌, ◌^◌, ◌≤◌, ◌<◌, Bool, true, false, not, ◌&&◌, ◌||◌, ◌≡◌, refl, ltb, leb, eqb}
+use Rattle.std.specs.Prelude.{ℕ, ◌+◌, ◌*◌, ◌/◌, ◌-◌, ◌^◌, ◌≤◌, ◌<◌, Bool, true, false, not, ◌&&◌, ◌||◌, ◌≡◌, refl, leb, eqb}
 use Rattle.std.proofs.Math.Decide.{dec_le}
-use Rattle.std.proofs.Common.{arith, ap, ap₂, ◌∙◌}
+use Rattle.std.proofs.Common.{arith, ap₂, ◌∙◌}
 use Rattle.std.proofs.Math.Path.{sym}
 use borrow.Author.Tests.{leb-true, eq-eqb, ne_eqb, lt-ltb, le-leb, lt-leb, not-true, not-false}
 use Rattle.values.specs.declared.sizes.QuorumSize.{QuorumSize}
 use Rattle.values.specs.declared.sizes.QuorumSize.TheVariants.{SizeRefused, Size}
-use Rattle.protocol.specs.Tools.{if, holds, Result, refused, done, guard}
+use Rattle.protocol.specs.Tools.{holds, Result, refused, done, guard}
 use Rattle.protocol.specs.Sizes.{servers, size_rule, quorum, read_of, write_of, Both, quorum_size, size, sized, read_size, write_size, one_exchange}
 use Rattle.protocol.specs.declared.View.{View}
 use Rattle.protocol.specs.Laws.Tests.{and_left, and_right, count_le}

@@ -14,7 +14,7 @@ const LAST_SERVER: u32 = SERVERS as u32;
 const MOST_FAULTS: u32 = 10;
 
 // The answers that close READ and those that close WRITE and END, or a refusal.
-#[derive(Drop)]
+#[derive(Clone, Copy)]
 pub enum QuorumSize {
     SizeRefused(u8),
     Size(u32, u32),

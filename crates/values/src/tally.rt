@@ -7,7 +7,7 @@ use super::{entries, sets};
 use protocol::{Choice, Entry, Message, MessageNumber, ServerNumber, ServerSet, Taken, ViewNumber};
 
 // The servers heard, the largest entry that they showed, and whether they all showed one.
-#[derive(Drop)]
+#[derive(Clone, Copy)]
 pub struct Tally {
     pub seen: ServerSet,
     pub best: Entry,

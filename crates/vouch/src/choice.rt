@@ -8,7 +8,7 @@ use protocol::Entry;
 use values::entries;
 
 // What is chosen, if any entry qualifies.
-#[derive(Drop)]
+#[derive(Clone, Copy)]
 pub enum Choice {
     Nothing,
     Best(Entry),

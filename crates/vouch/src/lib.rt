@@ -1,4 +1,6 @@
 // Entries without a signature: chosen by how many servers show them.
+#![tactic(auto)]
+
 mod answers;
 pub mod call;
 mod checks;

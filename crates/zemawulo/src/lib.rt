@@ -1,4 +1,6 @@
 // The C interface. Every answer is refusal + 256 * result.
+#![tactic(auto)]
+
 ghost use Rattle.std.specs.Prelude.{◌≡◌, ◌+◌, ◌*◌, ◌%◌, ◌^◌, length};
 ghost use Rattle.protocol.specs.Sizes.{quorum_size};
 ghost use Rattle.image.specs.Fresh.{fresh_on};

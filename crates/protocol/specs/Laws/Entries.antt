@@ -126,10 +126,10 @@ unfolding largest
 start_le e [] = ≼_refl e
 start_le e (x ∷ xs) = ≼_trans (larger_right x e) (start_le (larger x e) xs)
 
-largest_le : (e : Entry) {x : Entry} {l : List Entry} → Listed x l → x ≼ largest e l
+largest_le : {x : Entry} (e : Entry) {l : List Entry} → Listed x l → x ≼ largest e l
 unfolding largest
 largest_le e (head {y} {xs} q) = rw (← q) (≼_trans (larger_left y e) (start_le (larger y e) xs))
-largest_le e (tail {y} i) = largest_le (larger y e) i
+largest_le {x} e (tail {y} i) = largest_le {x = x} (larger y e) i
 
 largest_one : (e : Entry) (l : List Entry) → (largest e l ≡ e) ⊎ Listed (largest e l) l
 unfolding largest
