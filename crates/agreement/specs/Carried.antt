@@ -9,11 +9,11 @@ use Rattle.protocol.specs.Tools.{count_to, holds}
 use Rattle.protocol.specs.Sizes.{servers, size, sized, read_size, write_size}
 use Rattle.protocol.specs.Servers.{END, START}
 use Rattle.protocol.specs.Worlds.{World, view, server, newest, member, bad, premise}
-use Rattle.protocol.specs.Laws.Tests.{all_to_at}
-use Rattle.protocol.specs.Laws.Sizes.{Sizes, sizes}
-use Rattle.protocol.specs.Laws.Entries.{◌≼◌, ≼_trans}
-use Rattle.protocol.specs.Laws.Worlds.{sent}
-use Rattle.protocol.specs.Laws.Change.{lying, Vote, Votes}
+use Rattle.protocol.proofs.Laws.Tests.{all_to_at}
+use Rattle.protocol.proofs.Laws.Sizes.{Sizes, sizes}
+use Rattle.protocol.proofs.Laws.Entries.{◌≼◌, ≼_trans}
+use Rattle.protocol.proofs.Laws.Worlds.{sent}
+use Rattle.protocol.proofs.Laws.Change.{lying, Vote, Votes}
 use Rattle.agreement.specs.Counting.{beyond, common}
 use Rattle.agreement.specs.Invariants.{Fair, Again, Root, Based, early, rooted, Before, StartOf, Inv}
 

@@ -2,7 +2,7 @@
 use Rattle.std.specs.Prelude.{ℕ, zero, suc, ◌+◌, ◌≤◌, ◌<◌, Bool, true, false, ◌&&◌, ◌≡◌, refl}
 use Rattle.std.proofs.Common.{arith, ap}
 use Rattle.protocol.specs.Tools.{bit, count_to}
-use Rattle.protocol.specs.Laws.Tests.{and_left, and_right}
+use Rattle.protocol.proofs.Laws.Tests.{and_left, and_right}
 
 -- counting two sets counts what they share twice
 bit_both : (x y z : Bool) → (x ≡ true → z ≡ true) → (y ≡ true → z ≡ true) → bit x + bit y ≤ bit (x && y) + bit z

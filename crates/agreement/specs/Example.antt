@@ -5,8 +5,8 @@ use Rattle.protocol.specs.Tools.{any, done}
 use Rattle.protocol.specs.Entries.{entry, same}
 use Rattle.protocol.specs.Clients.{WRITES, READS}
 use Rattle.protocol.specs.Worlds.{fresh, premise}
-use Rattle.protocol.specs.Laws.Worlds.{content, sent}
-use Rattle.protocol.specs.Sessions.{write, read, deliver_to, take_one, fault_of, false_answer, new_view_lem, given_up_lem, begun, run_of, operations_of, premise_after, stop_of, stops, operated}
+use Rattle.protocol.proofs.Laws.Worlds.{content, sent}
+use Rattle.protocol.proofs.Sessions.{write, read, deliver_to, take_one, fault_of, false_answer, new_view_lem, given_up_lem, begun, run_of, operations_of, premise_after, stop_of, stops, operated}
 use Rattle.protocol.specs.Runs.{run_from}
 use Rattle.agreement.specs.Sorting.{filter, sort}
 use Rattle.agreement.specs.Precedence.{compared}

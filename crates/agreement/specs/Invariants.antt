@@ -8,10 +8,10 @@ use Rattle.protocol.specs.Sizes.{write_size}
 use Rattle.protocol.specs.Entries.{empty}
 use Rattle.protocol.specs.Servers.{WRITE, END, START, ANSWER}
 use Rattle.protocol.specs.Worlds.{World, view, server, newest, member}
-use Rattle.protocol.specs.Laws.Tests.{clash, last_or}
-use Rattle.protocol.specs.Laws.Entries.{◌≼◌, ≼_refl, ≼_trans}
-use Rattle.protocol.specs.Laws.Worlds.{sent}
-use Rattle.protocol.specs.Laws.Change.{lying, Votes, To, Joined, stay, join, Given, Carried, written, begun, Honest, Shows, nothing, old, its, Started, New, Posted, none, one, Change}
+use Rattle.protocol.proofs.Laws.Tests.{clash, last_or}
+use Rattle.protocol.proofs.Laws.Entries.{◌≼◌, ≼_refl, ≼_trans}
+use Rattle.protocol.proofs.Laws.Worlds.{sent}
+use Rattle.protocol.proofs.Laws.Change.{lying, Votes, To, Joined, stay, join, Given, Carried, written, begun, Honest, Shows, nothing, old, its, Started, New, Posted, none, one, Change}
 
 -- ---- what is said of an answer m
 

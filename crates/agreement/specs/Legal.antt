@@ -5,7 +5,7 @@ use Rattle.std.proofs.Math.Option.{Option, some}
 use Rattle.protocol.specs.declared.Entry.{Entry}
 use Rattle.protocol.specs.Clients.{WRITES, READS}
 use Rattle.protocol.specs.Consistent.{Operation, In, here, there, Before, now, later, Reads, end, write, read}
-use Rattle.protocol.specs.Laws.Entries.{◌≼◌, ≼_refl}
+use Rattle.protocol.proofs.Laws.Entries.{◌≼◌, ≼_refl}
 use Rattle.agreement.specs.Lists.{Rising, next}
 use Rattle.agreement.specs.Precedence.{◌≺◌, Level, ≺_not, Key, Precedes, by_stamp, by_kind, by_read, precedes_≼, precedes_≺}
 

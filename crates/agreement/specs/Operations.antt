@@ -14,9 +14,9 @@ use Rattle.protocol.specs.Clients.{WRITES, READS, number, is_idle, next_count, t
 use Rattle.protocol.specs.Worlds.{World, client, newest}
 use Rattle.protocol.specs.Consistent.{In}
 use Rattle.protocol.specs.Runs.{Tracked}
-use Rattle.protocol.specs.Laws.Entries.{≼_refl}
-use Rattle.protocol.specs.Laws.Worlds.{sent}
-use Rattle.protocol.specs.Laws.Change.{Votes, Closed, Kept, Agreed, began, wrote, ended, one, Change}
+use Rattle.protocol.proofs.Laws.Entries.{≼_refl}
+use Rattle.protocol.proofs.Laws.Worlds.{sent}
+use Rattle.protocol.proofs.Laws.Change.{Votes, Closed, Kept, Agreed, began, wrote, ended, one, Change}
 use Rattle.agreement.specs.Lists.{Rising}
 use Rattle.agreement.specs.Invariants.{IsAnswer, Origin, blank, from, Inv, grown, raised, votes_on}
 use Rattle.agreement.specs.Carried.{Held, Read}

@@ -15,9 +15,9 @@ use Rattle.protocol.specs.Clients.{WRITES, READS}
 use Rattle.protocol.specs.Worlds.{World, message}
 use Rattle.protocol.specs.Consistent.{Operation, In, here, there, Before, now, later, Once, none as nobody, one, Stands, completed, surfaced, Ended, Between, Ordered}
 use Rattle.protocol.specs.Runs.{Tracked, unfinished, entry_of, operation, history}
-use Rattle.protocol.specs.Laws.Tests.{and_left, and_right, and_both, or_cases, clash, or_first, or_second}
-use Rattle.protocol.specs.Laws.Entries.{◌≼◌, ≼_count, same_is, is_same}
-use Rattle.protocol.specs.Laws.Worlds.{content, sent}
+use Rattle.protocol.proofs.Laws.Tests.{and_left, and_right, and_both, or_cases, clash, or_first, or_second}
+use Rattle.protocol.proofs.Laws.Entries.{◌≼◌, ≼_count, same_is, is_same}
+use Rattle.protocol.proofs.Laws.Worlds.{content, sent}
 use Rattle.agreement.specs.Lists.{in_map, map_in, Rising, next, Related, before, after, equal, related}
 use Rattle.agreement.specs.Sorting.{filter, in_filter, filter_in, filter_rising, sort, in_sort, sort_in, sort_sorted}
 use Rattle.agreement.specs.Invariants.{Origin, blank, from}

@@ -4,7 +4,7 @@ use Rattle.std.proofs.Math.Decide.{dec_lt}
 use Rattle.std.proofs.Common.{arith, sym, inl, inr}
 use Rattle.protocol.specs.declared.Entry.{Entry}
 use Rattle.protocol.specs.Entries.{count_of, writer_of}
-use Rattle.protocol.specs.Laws.Entries.{◌≼◌, by_count, by_writer, ≼_refl}
+use Rattle.protocol.proofs.Laws.Entries.{◌≼◌, by_count, by_writer, ≼_refl}
 
 infix 50 ◌≺◌
 -- the stamp of a is below that of b; the two are one stamp

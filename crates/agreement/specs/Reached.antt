@@ -15,12 +15,12 @@ use Rattle.protocol.specs.Worlds.{World, no_message, view, server, client, membe
 use Rattle.protocol.specs.Steps.{After, step}
 use Rattle.protocol.specs.Consistent.{In, here, there}
 use Rattle.protocol.specs.Runs.{step_of, step_bytes, Tracked, started, Run, noted, run, run_from}
-use Rattle.protocol.specs.Laws.Tests.{clash, or_cases}
-use Rattle.protocol.specs.Laws.Fresh.{First, member_of_lem, outside, first, used_none, views_count, servers_count, clients_count, messages_count, fresh_newest, fresh_view, fresh_settled, fresh_client, fresh_message}
-use Rattle.protocol.specs.Laws.Bits.{holds_bit_of, holds_none}
-use Rattle.protocol.specs.Laws.Worlds.{content, sent}
-use Rattle.protocol.specs.Laws.Sound.{Mail, Sized, Sound, nowhere}
-use Rattle.protocol.specs.Laws.Turns.{starter, step_lawful, step_starter}
+use Rattle.protocol.proofs.Laws.Tests.{clash, or_cases}
+use Rattle.protocol.proofs.Laws.Fresh.{First, member_of_lem, outside, first, used_none, views_count, servers_count, clients_count, messages_count, fresh_newest, fresh_view, fresh_settled, fresh_client, fresh_message}
+use Rattle.protocol.proofs.Laws.Bits.{holds_bit_of, holds_none}
+use Rattle.protocol.proofs.Laws.Worlds.{content, sent}
+use Rattle.protocol.proofs.Laws.Sound.{Mail, Sized, Sound, nowhere}
+use Rattle.protocol.proofs.Laws.Turns.{starter, step_lawful, step_starter}
 use Rattle.agreement.specs.Lists.{no_member, empty as nobody, next}
 use Rattle.agreement.specs.Invariants.{Keyed, Based, early, Origin, blank, Inv, inv_on}
 use Rattle.agreement.specs.Operations.{Story}

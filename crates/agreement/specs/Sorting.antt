@@ -6,7 +6,7 @@ use Rattle.std.proofs.Common.{sym, ◌∙◌, inl, inr}
 use mathlib.Core.List.{List, [], ◌∷◌}
 use Rattle.protocol.specs.Tools.{if}
 use Rattle.protocol.specs.Consistent.{In, here, there}
-use Rattle.protocol.specs.Laws.Tests.{clash}
+use Rattle.protocol.proofs.Laws.Tests.{clash}
 use Rattle.agreement.specs.Lists.{Rising, empty, next, no_member}
 
 -- the members of a list that pass a test

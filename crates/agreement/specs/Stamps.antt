@@ -14,7 +14,7 @@ use Rattle.protocol.specs.Clients.{WRITES}
 use Rattle.protocol.specs.Worlds.{World, fresh}
 use Rattle.protocol.specs.Consistent.{Operation, In}
 use Rattle.protocol.specs.Runs.{Tracked, entry_of, operation, Run, run_from, history}
-use Rattle.protocol.specs.Laws.Worlds.{content, sent}
+use Rattle.protocol.proofs.Laws.Worlds.{content, sent}
 use Rattle.agreement.specs.Lists.{in_map, Related, before, after, equal, related}
 use Rattle.agreement.specs.Operations.{shows, shows_sent, Own, Earlier, Story}
 use Rattle.agreement.specs.Precedence.{Level}

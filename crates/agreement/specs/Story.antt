@@ -17,9 +17,9 @@ use Rattle.protocol.specs.Clients.{WRITES, READS, number, is_idle}
 use Rattle.protocol.specs.Worlds.{World, client}
 use Rattle.protocol.specs.Consistent.{In}
 use Rattle.protocol.specs.Runs.{Tracked, sent_write, tracked}
-use Rattle.protocol.specs.Laws.Tests.{by_test, clash, last_or}
-use Rattle.protocol.specs.Laws.Worlds.{sent}
-use Rattle.protocol.specs.Laws.Change.{Acted, same, began, wrote, ended, exchanged, gave_up, Writer, Posted, none, one, Change, Moved}
+use Rattle.protocol.proofs.Laws.Tests.{by_test, clash, last_or}
+use Rattle.protocol.proofs.Laws.Worlds.{sent}
+use Rattle.protocol.proofs.Laws.Change.{Acted, same, began, wrote, ended, exchanged, gave_up, Writer, Posted, none, one, Change, Moved}
 use Rattle.agreement.specs.Lists.{in_map, map_in, in_append, in_left, in_right, Rising, rising_append, rising_map}
 use Rattle.agreement.specs.Invariants.{Inv, grown}
 use Rattle.agreement.specs.Carried.{Held}

@@ -9,7 +9,7 @@ use Rattle.protocol.specs.Sizes.{clients}
 use Rattle.protocol.specs.Steps.{After, step}
 use Rattle.protocol.specs.Runs.{step_width, step_of}
 use Rattle.protocol.specs.Worlds.{World, fresh}
-use Rattle.protocol.specs.Laws.Refusals.{among_ranged, fresh_refuses}
+use Rattle.protocol.proofs.Laws.Refusals.{among_ranged, fresh_refuses}
 use Rattle.codec.specs.Layout.{image_size}
 use Rattle.codec.specs.Lists.{put}
 use Rattle.codec.specs.Places.{client_at}

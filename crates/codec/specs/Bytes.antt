@@ -6,7 +6,7 @@ use Rattle.std.proofs.Common.{sym, ap, ◌∙◌, not-suc-le-zero, add-one, arit
 use Rattle.std.proofs.Math.Decide.{dec_lt}
 use Rattle.std.proofs.lemmas.List.{get_or-replicate}
 use Rattle.std.proofs.Math.ListN.{get_or-eq_default}
-use Rattle.protocol.specs.Laws.Tests.{and_left, and_right, and_both}
+use Rattle.protocol.proofs.Laws.Tests.{and_left, and_right, and_both}
 use Rattle.protocol.specs.Runs.{u16_width, u32_width, u16_at, u32_at}
 use Rattle.codec.specs.Lists.{part, part_one, part_add, get_d_part}
 

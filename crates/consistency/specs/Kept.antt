@@ -5,7 +5,7 @@ use Rattle.std.proofs.Common.{arith}
 use Rattle.protocol.specs.Tools.{Result, refused, done, guard, passed}
 use Rattle.protocol.specs.Worlds.{World, fresh}
 use Rattle.protocol.specs.Steps.{After}
-use Rattle.protocol.specs.Laws.Refusals.{among_ranged, fresh_refuses}
+use Rattle.protocol.proofs.Laws.Refusals.{among_ranged, fresh_refuses}
 use Rattle.codec.specs.Layout.{image_size}
 use Rattle.readable.specs.Readable.{readable}
 use Rattle.image.specs.Fresh.{outcome, fresh_on}

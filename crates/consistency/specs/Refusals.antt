@@ -13,10 +13,10 @@ use Rattle.protocol.specs.declared.Message.{Message}
 use Rattle.protocol.specs.Tools.{if, Result, refused, done, number_of}
 use Rattle.protocol.specs.Worlds.{World}
 use Rattle.protocol.specs.Runs.{step_width, replay}
-pub use Rattle.protocol.specs.Laws.Refusals.{among, Refuses, refusals, last_refusal, zero_done, quorum_refuses}
-use Rattle.protocol.specs.Laws.Refusals.{refuses_done, refuses_by, refuses_guard, refuses_if, refuses_more, among_ranged}
-use Rattle.protocol.specs.Laws.Refusals.{step_refuses, fresh_refuses, serve_refuses, may_answer_refuses, begin_refuses, close_refuses}
-use Rattle.protocol.specs.Laws.Refusals.{call_refuses, restart_refuses, replay_refuses, replay_all}
+pub use Rattle.protocol.proofs.Laws.Refusals.{among, Refuses, refusals, last_refusal, zero_done, quorum_refuses}
+use Rattle.protocol.proofs.Laws.Refusals.{refuses_done, refuses_by, refuses_guard, refuses_if, refuses_more, among_ranged}
+use Rattle.protocol.proofs.Laws.Refusals.{step_refuses, fresh_refuses, serve_refuses, may_answer_refuses, begin_refuses, close_refuses}
+use Rattle.protocol.proofs.Laws.Refusals.{call_refuses, restart_refuses, replay_refuses, replay_all}
 use Rattle.codec.specs.Layout.{image_size}
 use Rattle.codec.specs.Images.{decode}
 use Rattle.readable.specs.Readable.{readable}

@@ -20,8 +20,8 @@ use Rattle.protocol.specs.Entries.{empty}
 use Rattle.protocol.specs.Servers.{READ, WRITE, START, is_request, Reply, answering, as_reply, write, replacing, without_key, gathering, joining, serve, may_answer}
 use Rattle.protocol.specs.Worlds.{World, view, server, message, newest, member, present, with_server, send}
 use Rattle.protocol.specs.Steps.{After, answer, answers, deliver, fault, source?, lie}
-use Rattle.protocol.specs.Laws.Tests.{within_true, by_test, clash}
-use Rattle.protocol.specs.Laws.Bits.{holds_none, holds_or, holds_bit_of}
+use Rattle.protocol.proofs.Laws.Tests.{within_true, by_test, clash}
+use Rattle.protocol.proofs.Laws.Bits.{holds_none, holds_or, holds_bit_of}
 use Rattle.values.specs.Bits.{bit_in, bit_in_lem}
 use Rattle.readable.specs.Tests.{if_true, if_false}
 use Rattle.key_holders.specs.Counts.{bit_or_lem}

@@ -14,7 +14,7 @@ use Rattle.protocol.specs.declared.Server.{Server}
 use Rattle.protocol.specs.Tools.{if, bit, holds, nth, replace}
 use Rattle.protocol.specs.Sizes.{servers, views}
 use Rattle.protocol.specs.Worlds.{World, server, bad, with_server}
-use Rattle.protocol.specs.Laws.Worlds.{length_replace, nth_same, nth_other, server_same, server_other}
+use Rattle.protocol.proofs.Laws.Worlds.{length_replace, nth_same, nth_other, server_same, server_other}
 use Rattle.codec.specs.Layout.{image_size}
 use Rattle.codec.specs.Lists.{list_to_nth}
 use Rattle.codec.specs.Places.{holder_at, put_holder, put_server}

@@ -6,8 +6,8 @@ use Rattle.protocol.specs.Tools.{count_to, all_to, Result, refused, done, guard}
 use Rattle.protocol.specs.Sizes.{servers, views}
 use Rattle.protocol.specs.Worlds.{view, newest, bad, premise}
 use Rattle.protocol.specs.Runs.{u32_at}
-use Rattle.protocol.specs.Laws.Tests.{by_test, clash, all_to_at, all_to_lem}
-use Rattle.protocol.specs.Laws.Formed.{formed}
+use Rattle.protocol.proofs.Laws.Tests.{by_test, clash, all_to_at, all_to_lem}
+use Rattle.protocol.proofs.Laws.Formed.{formed}
 use Rattle.codec.specs.Layout.{image_size, holders_at, holder_place, holder_width}
 use Rattle.codec.specs.Places.{view_at, holder_at}
 use Rattle.codec.specs.Images.{decode}

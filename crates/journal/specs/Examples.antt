@@ -1,7 +1,7 @@
 -- Watched replays computed on the definitions: they are about something. Assumes nothing.
 use Rattle.std.specs.Prelude.{ℕ, ◌≡◌, refl, List, [], ◌∷◌, ◌++◌}
 use Rattle.protocol.specs.Worlds.{World}
-use Rattle.protocol.specs.Sessions.{begun, run_of, premise_after, read, deliver_to, take_one, fault_of, new_view_lem}
+use Rattle.protocol.proofs.Sessions.{begun, run_of, premise_after, read, deliver_to, take_one, fault_of, new_view_lem}
 use Rattle.journal.specs.Watch.{broken_from}
 
 -- the step named from the fresh world of these member bits and f, and from the world that these steps lead to

@@ -7,7 +7,7 @@ use mathlib.Core.List.{List}
 use borrow.Author.Tests.{eq-eqb, ne_eqb, leb-true, not-true, not-false}
 use Rattle.protocol.specs.Tools.{done, guard}
 use Rattle.protocol.specs.Entries.{empty}
-use Rattle.protocol.specs.Laws.Tests.{and_left, and_both}
+use Rattle.protocol.proofs.Laws.Tests.{and_left, and_both}
 use Rattle.judging.specs.declared.Judgement.{Judgement}
 use Rattle.judging.specs.declared.Judgement.TheVariants.{JudgeRefused, InOrder}
 use Rattle.judging.specs.Decision.{sorted, answers, timely, passes}

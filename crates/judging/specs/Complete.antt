@@ -17,8 +17,8 @@ use Rattle.protocol.specs.Tools.{if}
 use Rattle.protocol.specs.Entries.{empty, writer_of, same}
 use Rattle.protocol.specs.Clients.{WRITES, READS}
 use Rattle.protocol.specs.Consistent.{Operation, In, here, there, Before}
-use Rattle.protocol.specs.Laws.Tests.{and_both}
-use Rattle.protocol.specs.Laws.Entries.{◌≼◌, by_count, by_writer}
+use Rattle.protocol.proofs.Laws.Tests.{and_both}
+use Rattle.protocol.proofs.Laws.Entries.{◌≼◌, by_count, by_writer}
 use Rattle.judging.specs.declared.Logged.{Logged}
 use Rattle.judging.specs.Orders.{operations, OrderOf}
 use Rattle.judging.specs.Decision.{stamp_rank, rank, stands, sorted, follows, last_write, on_time, last_begin, along, answers, timely, passes}

@@ -10,7 +10,7 @@ use Rattle.protocol.specs.Sizes.{clients}
 use Rattle.protocol.specs.Entries.{count_of, writer_of, entry_fits}
 use Rattle.protocol.specs.Clients.{WRITES, READS}
 use Rattle.protocol.specs.Runs.{u16_at}
-use Rattle.protocol.specs.Laws.Tests.{and_left, and_right, and_both, or_cases, clash, within_true, all_to_at}
+use Rattle.protocol.proofs.Laws.Tests.{and_left, and_right, and_both, or_cases, clash, within_true, all_to_at}
 use Rattle.codec.specs.Layout.{entry_width}
 use Rattle.codec.specs.Lists.{part}
 use Rattle.codec.specs.Records.{entry_of}

@@ -6,7 +6,7 @@ use Rattle.std.proofs.Math.Option.{some}
 use Rattle.protocol.specs.declared.Entry.{Entry}
 use Rattle.protocol.specs.Worlds.{list_to}
 use Rattle.protocol.specs.Consistent.{Operation, Before, Ordered}
-use Rattle.protocol.specs.Laws.Entries.{◌≼◌}
+use Rattle.protocol.proofs.Laws.Entries.{◌≼◌}
 use Rattle.judging.specs.declared.Logged.{Logged}
 
 -- "begin number ..., end number (u16, 0 unfinished), kind (1 write, 2 read), entry"

@@ -15,8 +15,8 @@ use Rattle.protocol.specs.Tools.{if}
 use Rattle.protocol.specs.Entries.{empty, count_of, writer_of, same}
 use Rattle.protocol.specs.Clients.{WRITES, READS}
 use Rattle.protocol.specs.Consistent.{Operation, In, here, there, Before, now, later, Once, none as nobody, one, Stands, completed, surfaced, Ended, Reads, end, write, read, Between}
-use Rattle.protocol.specs.Laws.Tests.{and_left, and_right, and_both, or_cases, clash, last_or, or_first, or_second}
-use Rattle.protocol.specs.Laws.Entries.{◌≼◌, by_count, by_writer}
+use Rattle.protocol.proofs.Laws.Tests.{and_left, and_right, and_both, or_cases, clash, last_or, or_first, or_second}
+use Rattle.protocol.proofs.Laws.Entries.{◌≼◌, by_count, by_writer}
 use Rattle.judging.specs.declared.Logged.{Logged}
 use Rattle.judging.specs.Orders.{logged_operation, operations, NeverFalling, OrderOf}
 use Rattle.judging.specs.Decision.{stamp_rank, rank, returns, some_to, returned, stands, sorted, follows, last_write, on_time, last_begin, along, answers, timely, passes}

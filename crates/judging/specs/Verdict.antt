@@ -6,7 +6,7 @@ use Rattle.std.proofs.Math.Bool.{true, false}
 use Rattle.std.proofs.Math.Path.{refl}
 use Rattle.protocol.specs.Tools.{Result, refused, done, guard}
 use Rattle.protocol.specs.Consistent.{Operation, In}
-use Rattle.protocol.specs.Laws.Tests.{and_right, clash}
+use Rattle.protocol.proofs.Laws.Tests.{and_right, clash}
 use Rattle.codec.specs.Bytes.{le16}
 use Rattle.codec.specs.Lists.{flat}
 use Rattle.judging.specs.declared.Judgement.{Judgement}

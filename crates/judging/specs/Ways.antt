@@ -10,7 +10,7 @@ use Rattle.protocol.specs.Tools.{within, all_to}
 use Rattle.protocol.specs.Entries.{count_of, writer_of, same, entry_fits}
 use Rattle.protocol.specs.Clients.{WRITES, READS}
 use Rattle.protocol.specs.Runs.{u16_at}
-use Rattle.protocol.specs.Laws.Tests.{and_both, clash, all_to_at}
+use Rattle.protocol.proofs.Laws.Tests.{and_both, clash, all_to_at}
 use Rattle.codec.specs.Lists.{part, span}
 use Rattle.codec.specs.Records.{entry_of}
 use Rattle.judging.specs.declared.Logged.{Logged}

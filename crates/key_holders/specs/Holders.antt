@@ -10,7 +10,7 @@ use Rattle.protocol.specs.Sizes.{servers, views}
 use Rattle.protocol.specs.Entries.{entry_fits}
 use Rattle.protocol.specs.Worlds.{World, server, newest, bad}
 use Rattle.protocol.specs.Readable.{key_rule, server_fits}
-use Rattle.protocol.specs.Laws.Tests.{count_le}
+use Rattle.protocol.proofs.Laws.Tests.{count_le}
 use Rattle.values.specs.Bits.{holds_beyond}
 use Rattle.codec.specs.Places.{administrator_at, holder_at}
 use Rattle.codec.specs.Images.{holders, decode}

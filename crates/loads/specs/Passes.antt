@@ -5,8 +5,8 @@ use Rattle.std.proofs.Common.{not-suc-le-zero, le_of_eq, arith, inl, inr, sym, a
 use Rattle.std.proofs.lemmas.List.{drop-append-le, take-append-le}
 use Rattle.protocol.specs.declared.Step.{Step}
 use Rattle.protocol.specs.declared.Range.{Range}
-use Rattle.protocol.specs.Laws.Tests.{within_true, last_or}
-use Rattle.protocol.specs.Laws.Kinds.{Fitting, fits}
+use Rattle.protocol.proofs.Laws.Tests.{within_true, last_or}
+use Rattle.protocol.proofs.Laws.Kinds.{Fitting, fits}
 use Rattle.protocol.specs.Steps.{write_step, restart_step, CLIENT, SERVER, SIZE, VIEW, F, MESSAGE, SOURCE, VALUE, row_of, in_row, field, restart_fits, fields_fit, last_word}
 use Rattle.protocol.specs.Steps.{range, view_range, threshold_range, message_range, source_range, value_range, client_range, server_range, read_range, who_named, who_used, who_range}
 use Rattle.protocol.specs.Tools.{if}

@@ -15,7 +15,7 @@ use Rattle.codec.specs.Layout.{image_size}
 use Rattle.codec.specs.Places.{used_at, put_used, administrator_at, put_administrator, view_at, put_view, server_at, client_at, put_client, message_at, put_message}
 use Rattle.codec.specs.Images.{encode, decode}
 use Rattle.codec.specs.Laws.{Full, length_encode, put_view_lem, put_client_lem, put_message_lem, put_administrator_lem, put_send, full_view, full_client, full_message, full_administrator, full_send, used_decode, administrator_decode, decode_full, view_decode, server_decode, client_decode, message_decode}
-use Rattle.protocol.specs.Laws.Formed.{Formed, formed}
+use Rattle.protocol.proofs.Laws.Formed.{Formed, formed}
 use Rattle.mail.specs.declared.Stepped.{Stepped}
 use Rattle.mail.specs.declared.Stepped.TheVariants.{StepDone}
 use Rattle.mail.specs.Images.{stepped, answered, left_by, Legible, Does, put_sent}

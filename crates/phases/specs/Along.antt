@@ -16,9 +16,9 @@ use Rattle.protocol.specs.Worlds.{World, message, present, room, send, list_to}
 use Rattle.protocol.specs.Chains.{follow, chain}
 use Rattle.protocol.specs.Steps.{moved, link, open?, taken_with, take}
 use Rattle.protocol.specs.Readable.{is_asked}
-use Rattle.protocol.specs.Laws.Formed.{Formed}
-use Rattle.protocol.specs.Laws.Tests.{and_left, and_right}
-use Rattle.protocol.specs.Laws.Worlds.{content, sent, sent_link, message_new}
+use Rattle.protocol.proofs.Laws.Formed.{Formed}
+use Rattle.protocol.proofs.Laws.Tests.{and_left, and_right}
+use Rattle.protocol.proofs.Laws.Worlds.{content, sent, sent_link, message_new}
 use Rattle.preservation.specs.Chained.{chained}
 use Rattle.preservation.specs.Links.{Untaken, chain_head}
 use Rattle.preservation.specs.Kept.{untaken}

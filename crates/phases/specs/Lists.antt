@@ -17,9 +17,9 @@ use Rattle.protocol.specs.Sizes.{servers}
 use Rattle.protocol.specs.Entries.{empty, count_of, writer_of, below, larger, largest, chosen, same, entry_fits}
 use Rattle.protocol.specs.Worlds.{World, message}
 use Rattle.protocol.specs.Chains.{tagged, heard, enough, shown, agreed}
-use Rattle.protocol.specs.Laws.Bits.{holds_or, holds_none}
-use Rattle.protocol.specs.Laws.Tests.{and_left, and_right, or_second, or_cases, by_test, clash, within_true}
-use Rattle.protocol.specs.Laws.Entries.{same_is, is_same, largest_same, larger_one, all_one}
+use Rattle.protocol.proofs.Laws.Bits.{holds_or, holds_none}
+use Rattle.protocol.proofs.Laws.Tests.{and_left, and_right, or_second, or_cases, by_test, clash, within_true}
+use Rattle.protocol.proofs.Laws.Entries.{same_is, is_same, largest_same, larger_one, all_one}
 use Rattle.values.specs.Bits.{bit_in, bit_in_lem, bit_at, bit_held, count_same}
 use Rattle.values.specs.Tallies.{first_answer, closes_at, choice}
 use Rattle.phases.specs.Rules.{newer, count_answer}

@@ -5,7 +5,7 @@ use Rattle.protocol.specs.declared.Message.{Message}
 use Rattle.protocol.specs.declared.View.{View}
 use Rattle.protocol.specs.Tools.{done}
 use Rattle.protocol.specs.Sizes.{sized}
-use Rattle.protocol.specs.Laws.Refusals.{Refuses, refuses_done, refuses_guard, refuses_then}
+use Rattle.protocol.proofs.Laws.Refusals.{Refuses, refuses_done, refuses_guard, refuses_then}
 use Rattle.checked.specs.Rules.{take_rule}
 use Rattle.phases.specs.Calls.{open_on, may_take, answer_on}
 

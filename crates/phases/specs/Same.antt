@@ -33,10 +33,10 @@ use Rattle.protocol.specs.Chains.{chain, enough, shown, agreed}
 use Rattle.protocol.specs.Steps.{After, moved, link, open?, taken_with, at_once, closes, starts, takes, take}
 use Rattle.protocol.specs.Readable.{is_sent, ending_fits, kind_rule, phase_fits, client_range, client_fits, view_fits, last_view}
 use Rattle.protocol.specs.Readable.{sender_fits, tag_rule, is_asked, request_rule, next_fits, entry_zero, sent_fits, message_fits, taken_answer, ends, chain_fits}
-use Rattle.protocol.specs.Laws.Formed.{Formed}
-use Rattle.protocol.specs.Laws.Tests.{and_left, and_right, and_both, by_test, clash, within_true, is_within}
+use Rattle.protocol.proofs.Laws.Formed.{Formed}
+use Rattle.protocol.proofs.Laws.Tests.{and_left, and_right, and_both, by_test, clash, within_true, is_within}
 use Rattle.values.specs.Tallies.{choice}
-use Rattle.protocol.specs.Laws.Worlds.{nth_same, nth_other}
+use Rattle.protocol.proofs.Laws.Worlds.{nth_same, nth_other}
 use Rattle.codec.specs.Bytes.{zeros, half_le16, word_le32}
 use Rattle.codec.specs.Records.{entry_of, entry_bytes, entry_plain, view_of, view_bytes, message_of, message_bytes, message_plain}
 use Rattle.codec.specs.Records.{EntryFits, ViewFits, MessageFits, view_of_bytes, message_of_bytes, length_view_bytes, length_message_bytes}

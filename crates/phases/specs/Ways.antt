@@ -19,7 +19,7 @@ use Rattle.protocol.specs.Entries.{same, empty}
 use Rattle.protocol.specs.Servers.{READ, END, ANSWER}
 use Rattle.protocol.specs.Clients.{taken}
 use Rattle.protocol.specs.Readable.{sender_fits, tag_rule}
-use Rattle.protocol.specs.Laws.Tests.{and_left, and_right, within_true}
+use Rattle.protocol.proofs.Laws.Tests.{and_left, and_right, within_true}
 use Rattle.values.specs.Tallies.{first_answer, closes_at}
 use Rattle.checked.specs.Ranges.{number_fits, message_in_range, message_view}
 use Rattle.checked.specs.Rules.{take_rule}

@@ -17,9 +17,9 @@ use Rattle.protocol.specs.Worlds.{World, no_message, view, message, newest, pres
 use Rattle.protocol.specs.Chains.{follow, chain, tagged, heard, enough}
 use Rattle.protocol.specs.Steps.{After, moved, link, open?, takes, take}
 use Rattle.protocol.specs.Readable.{taken_answer, distinct}
-use Rattle.protocol.specs.Laws.Tests.{and_left, and_right, and_both, by_bool, clash, is_within, count_le, or_first, or_second}
-use Rattle.protocol.specs.Laws.Worlds.{content, sent, message_same, message_other, sent_with, message_as, count_as}
-use Rattle.protocol.specs.Laws.Sound.{not_answer, link_count, link_other}
+use Rattle.protocol.proofs.Laws.Tests.{and_left, and_right, and_both, by_bool, clash, is_within, count_le, or_first, or_second}
+use Rattle.protocol.proofs.Laws.Worlds.{content, sent, message_same, message_other, sent_with, message_as, count_as}
+use Rattle.protocol.proofs.Laws.Sound.{not_answer, link_count, link_other}
 use Rattle.preservation.specs.Chained.{all_member, count_more, pigeons, follow_step}
 use Rattle.preservation.specs.Links.{Is, taken_is, is_taken_lem, answers_fit_lem}
 use Rattle.preservation.specs.Unclosed.{enough_on}

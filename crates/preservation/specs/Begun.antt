@@ -11,8 +11,8 @@ use Rattle.protocol.specs.Worlds.{World, no_message, server, client, fresh_world
 use Rattle.protocol.specs.Steps.{After, step}
 use Rattle.protocol.specs.Runs.{step_of, step_bytes, left, run}
 use Rattle.protocol.specs.Readable.{ending_fits, last_view, view_fits, server_fits, client_range, client_fits, zero_message, well_formed}
-use Rattle.protocol.specs.Laws.Fresh.{First, member_of_lem, outside, first, used_none, views_count, servers_count, clients_count, messages_count, fresh_newest, fresh_view, fresh_client, fresh_message, fresh_beyond}
-use Rattle.protocol.specs.Laws.Formed.{Formed, well_formed_lem}
+use Rattle.protocol.proofs.Laws.Fresh.{First, member_of_lem, outside, first, used_none, views_count, servers_count, clients_count, messages_count, fresh_newest, fresh_view, fresh_client, fresh_message, fresh_beyond}
+use Rattle.protocol.proofs.Laws.Formed.{Formed, well_formed_lem}
 use Rattle.preservation.specs.Updates.{is_mail, is_view}
 use Rattle.preservation.specs.Kept.{step_kept}
 

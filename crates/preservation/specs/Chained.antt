@@ -9,7 +9,7 @@ use Rattle.protocol.specs.Servers.{is_request}
 use Rattle.protocol.specs.Worlds.{World, message}
 use Rattle.protocol.specs.Chains.{follow, chain}
 use Rattle.protocol.specs.Readable.{taken_answer, distinct, ends, chain_fits}
-use Rattle.protocol.specs.Laws.Tests.{and_left, and_right, and_both, or_cases, by_bool, clash, last_or, within_true, all_to_at, all_to_lem, count_le}
+use Rattle.protocol.proofs.Laws.Tests.{and_left, and_right, and_both, or_cases, by_bool, clash, last_or, within_true, all_to_at, all_to_lem, count_le}
 
 -- "each chain holds only taken answers of its request, all of them, each one time", and it ends
 pub record Chained (w : World) (r : ℕ) : Type 0 where

@@ -17,8 +17,8 @@ use Rattle.protocol.specs.Clients.{WRITES, READS, begin, give_up, close_size, cl
 use Rattle.protocol.specs.Worlds.{World, view, newest, server, client, message, member, present, room, with_client, with_administrator, next_number}
 use Rattle.protocol.specs.Steps.{After, moved, source?, link, taken_with, begins, answers, deliver, closes, starts, takes, take, fault, lie, new_view, emptied, planned, restarts, gives_up, perform, step, view_step, give_up_step, view_asked}
 use Rattle.protocol.specs.Readable.{well_formed}
-use Rattle.protocol.specs.Laws.Tests.{and_left, and_right, within_true}
-use Rattle.protocol.specs.Laws.Formed.{Formed, formed}
+use Rattle.protocol.proofs.Laws.Tests.{and_left, and_right, within_true}
+use Rattle.protocol.proofs.Laws.Formed.{Formed, formed}
 use Rattle.preservation.specs.Outcomes.{Yields, yields_done, yields_guard, yields_then, yields_if, yields_moved, yields_room}
 use Rattle.preservation.specs.Updates.{present_is, request_of_lem}
 use Rattle.preservation.specs.Kept.{mailed}

@@ -25,11 +25,11 @@ use Rattle.protocol.specs.Chains.{follow, chain, tagged, enough, shown}
 use Rattle.protocol.specs.Steps.{After, moved, request, link, open?, starts, takes, take, emptied, planned, restarts, restart_step, view_asked, fields_fit, perform, step}
 use Rattle.protocol.specs.Readable.{taken_answer}
 use Rattle.protocol.specs.Runs.{step_of, step_bytes, Run, noted, run, run_from}
-use Rattle.protocol.specs.Laws.Tests.{and_left, and_right, by_bool, clash, went}
-use Rattle.protocol.specs.Laws.Worlds.{content, sent, sent_link, sent_send, view_other}
-use Rattle.protocol.specs.Laws.Fresh.{fresh_settled}
-use Rattle.protocol.specs.Laws.Moves.{is_done, done_is, present_is}
-use Rattle.protocol.specs.Laws.Formed.{Formed}
+use Rattle.protocol.proofs.Laws.Tests.{and_left, and_right, by_bool, clash, went}
+use Rattle.protocol.proofs.Laws.Worlds.{content, sent, sent_link, sent_send, view_other}
+use Rattle.protocol.proofs.Laws.Fresh.{fresh_settled}
+use Rattle.protocol.proofs.Laws.Moves.{is_done, done_is, present_is}
+use Rattle.protocol.proofs.Laws.Formed.{Formed}
 use Rattle.preservation.specs.Chained.{follow_same}
 use Rattle.preservation.specs.Updates.{request_free}
 use Rattle.preservation.specs.Kept.{ended, formed_step}

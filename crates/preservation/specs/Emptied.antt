@@ -14,9 +14,9 @@ use Rattle.protocol.specs.Worlds.{World, message, with_message, unlinked, as_sen
 use Rattle.protocol.specs.Chains.{follow, chain}
 use Rattle.protocol.specs.Steps.{emptied}
 use Rattle.protocol.specs.Readable.{taken_answer, distinct}
-use Rattle.protocol.specs.Laws.Tests.{clash, or_cases, by_bool, or_second}
-use Rattle.protocol.specs.Laws.Worlds.{content, sent, message_as, sent_as}
-use Rattle.protocol.specs.Laws.Sound.{used_as, not_answer}
+use Rattle.protocol.proofs.Laws.Tests.{clash, or_cases, by_bool, or_second}
+use Rattle.protocol.proofs.Laws.Worlds.{content, sent, message_as, sent_as}
+use Rattle.protocol.proofs.Laws.Sound.{used_as, not_answer}
 use Rattle.preservation.specs.Chained.{Chained, all_map, all_member, follow_same}
 use Rattle.preservation.specs.Links.{Is, taken_is, is_taken_lem, Short, chained_of}
 

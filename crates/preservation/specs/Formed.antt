@@ -16,8 +16,8 @@ use Rattle.protocol.specs.Servers.{READ, WRITE, END, ANSWER, is_request}
 use Rattle.protocol.specs.Clients.{WRITES, READS}
 use Rattle.protocol.specs.Worlds.{World, view, message, newest, present}
 use Rattle.protocol.specs.Readable.{is_sent, ending_fits, phase_fits, sender_fits, tag_rule, request_fits, sent_fits}
-use Rattle.protocol.specs.Laws.Tests.{and_left, and_right, and_both, within_true, is_within}
-use Rattle.protocol.specs.Laws.Worlds.{content, sent}
+use Rattle.protocol.proofs.Laws.Tests.{and_left, and_right, and_both, within_true, is_within}
+use Rattle.protocol.proofs.Laws.Worlds.{content, sent}
 
 -- of two tests, the first implies another; the second does
 pub and_first : (x y a : Bool) → (x ≡ true → a ≡ true) → (x && y) ≡ true → (a && y) ≡ true

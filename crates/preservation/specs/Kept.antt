@@ -30,12 +30,12 @@ use Rattle.protocol.specs.Worlds.{World, view, server, client, message, newest, 
 use Rattle.protocol.specs.Chains.{chain, tagged, enough, shown}
 use Rattle.protocol.specs.Steps.{After, moved, request, answer, answers, begins, deliver, link, open?, taken_with, at_once, closes, starts, takes, take, fault, source?, lie, new_view, emptied, restarts, gives_up, write_step, read_step, deliver_step, fault_step, false_step, give_up_step, row_of, view_asked, step}
 use Rattle.protocol.specs.Readable.{is_sent, ending_fits, server_fits, phase_fits, client_range, client_fits, sender_fits, tag_rule, request_fits, next_fits, entry_zero, sent_fits, taken_answer, well_formed}
-use Rattle.protocol.specs.Laws.Tests.{and_left, and_right, and_both, clash, within_true, went, is_within, or_first, or_second}
-use Rattle.protocol.specs.Laws.Entries.{larger_one, Listed, head, tail, chosen_one}
-use Rattle.protocol.specs.Laws.Worlds.{content, sent, message_new}
-use Rattle.protocol.specs.Laws.Moves.{done_is, is_done, room_left, Serving, reads, writes, ends, joins, gathers, serving}
-use Rattle.protocol.specs.Laws.Kinds.{IsClient, IsServer, client_of_lem as who_client, server_of_lem as who_server, value_of, by_kind}
-use Rattle.protocol.specs.Laws.Formed.{Formed, formed, well_formed_lem}
+use Rattle.protocol.proofs.Laws.Tests.{and_left, and_right, and_both, clash, within_true, went, is_within, or_first, or_second}
+use Rattle.protocol.proofs.Laws.Entries.{larger_one, Listed, head, tail, chosen_one}
+use Rattle.protocol.proofs.Laws.Worlds.{content, sent, message_new}
+use Rattle.protocol.proofs.Laws.Moves.{done_is, is_done, room_left, Serving, reads, writes, ends, joins, gathers, serving}
+use Rattle.protocol.proofs.Laws.Kinds.{IsClient, IsServer, client_of_lem as who_client, server_of_lem as who_server, value_of, by_kind}
+use Rattle.protocol.proofs.Laws.Formed.{Formed, formed, well_formed_lem}
 use Rattle.preservation.specs.Formed.{sent_on}
 use Rattle.preservation.specs.Chained.{chained, all_map}
 use Rattle.preservation.specs.Links.{Untaken, taken_is}

@@ -15,9 +15,9 @@ use Rattle.protocol.specs.Worlds.{World, message, present, with_message}
 use Rattle.protocol.specs.Chains.{follow, chain}
 use Rattle.protocol.specs.Steps.{link}
 use Rattle.protocol.specs.Readable.{taken_answer, distinct}
-use Rattle.protocol.specs.Laws.Tests.{and_left, and_right, and_both, by_bool, clash, within_true, is_within}
-use Rattle.protocol.specs.Laws.Worlds.{content, sent, message_same, message_other, message_out, sent_link}
-use Rattle.protocol.specs.Laws.Sound.{link_used, link_other, link_answer, link_taken, link_request, not_answer}
+use Rattle.protocol.proofs.Laws.Tests.{and_left, and_right, and_both, by_bool, clash, within_true, is_within}
+use Rattle.protocol.proofs.Laws.Worlds.{content, sent, message_same, message_other, message_out, sent_link}
+use Rattle.protocol.proofs.Laws.Sound.{link_used, link_other, link_answer, link_taken, link_request, not_answer}
 use Rattle.preservation.specs.Chained.{Chained, all_map, outside, pigeons, count_lacks, count_lacks_two, follow_same, follow_step, follow_enough, follow_longer}
 
 -- the answer k of w, not taken yet, to request r

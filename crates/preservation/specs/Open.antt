@@ -15,8 +15,8 @@ use Rattle.protocol.specs.Clients.{WRITES, READS, request_of, end_of}
 use Rattle.protocol.specs.Worlds.{World, client, message, newest, present}
 use Rattle.protocol.specs.Steps.{open?}
 use Rattle.protocol.specs.Readable.{is_sent, phase_fits, client_range, client_fits, ending_fits, well_formed}
-use Rattle.protocol.specs.Laws.Tests.{and_left, and_right, within_true}
-use Rattle.protocol.specs.Laws.Formed.{Formed, formed}
+use Rattle.protocol.proofs.Laws.Tests.{and_left, and_right, within_true}
+use Rattle.protocol.proofs.Laws.Formed.{Formed, formed}
 use Rattle.preservation.specs.Updates.{present_is}
 use Rattle.preservation.specs.Kept.{mailed}
 

@@ -6,7 +6,7 @@ use Rattle.std.proofs.Math.Path.{refl}
 use Rattle.protocol.specs.Tools.{if, Result, refused, done, guard, then}
 use Rattle.protocol.specs.Worlds.{World}
 use Rattle.protocol.specs.Steps.{After, moved}
-use Rattle.protocol.specs.Laws.Moves.{is_done}
+use Rattle.protocol.proofs.Laws.Moves.{is_done}
 
 -- where x is done, P holds of what was done
 pub record Yields (P : After → Type 0) (x : Result After) : Type 0 where

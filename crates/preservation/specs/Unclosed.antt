@@ -26,13 +26,13 @@ use Rattle.protocol.specs.Worlds.{World, view, server, client, message, newest, 
 use Rattle.protocol.specs.Chains.{follow, chain, tagged, heard, enough}
 use Rattle.protocol.specs.Steps.{After, moved, request, answer, answers, begins, deliver, link, open?, taken_with, closes, starts, takes, take, fault, source?, lie, new_view, emptied, planned, restarts, gives_up, view_asked, step}
 use Rattle.protocol.specs.Readable.{last_view, taken_answer}
-use Rattle.protocol.specs.Laws.Tests.{and_left, and_right, by_bool, clash}
-use Rattle.protocol.specs.Laws.Sizes.{sizes}
-use Rattle.protocol.specs.Laws.Worlds.{content, sent, sent_link, message_send, message_new, view_other}
-use Rattle.protocol.specs.Laws.Formed.{Formed}
-use Rattle.protocol.specs.Laws.Sound.{not_answer}
-use Rattle.protocol.specs.Laws.Kinds.{by_kind}
-use Rattle.protocol.specs.Laws.Moves.{is_done, room_left}
+use Rattle.protocol.proofs.Laws.Tests.{and_left, and_right, by_bool, clash}
+use Rattle.protocol.proofs.Laws.Sizes.{sizes}
+use Rattle.protocol.proofs.Laws.Worlds.{content, sent, sent_link, message_send, message_new, view_other}
+use Rattle.protocol.proofs.Laws.Formed.{Formed}
+use Rattle.protocol.proofs.Laws.Sound.{not_answer}
+use Rattle.protocol.proofs.Laws.Kinds.{by_kind}
+use Rattle.protocol.proofs.Laws.Moves.{is_done, room_left}
 use Rattle.preservation.specs.Chained.{Chained, follow_same}
 use Rattle.preservation.specs.Links.{Untaken, Is, taken_is, chain_head, v_other}
 use Rattle.preservation.specs.Emptied.{emptied_in, among_request}

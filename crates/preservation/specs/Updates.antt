@@ -30,10 +30,10 @@ use Rattle.protocol.specs.Worlds.{World, no_message, view, server, client, messa
 use Rattle.protocol.specs.Chains.{follow, chain}
 use Rattle.protocol.specs.Steps.{link, emptied}
 use Rattle.protocol.specs.Readable.{is_sent, ending_fits, last_view, zero_view, view_fits, server_fits, phase_fits, client_range, client_fits, tag_rule, request_fits, next_fits, entry_zero, sender_fits, sent_fits, zero_message, message_fits, taken_answer, distinct}
-use Rattle.protocol.specs.Laws.Tests.{and_left, and_right, and_both, by_bool, clash, within_true, bit_le, or_first, or_second}
-use Rattle.protocol.specs.Laws.Worlds.{content, sent, length_replace, message_new, sent_send, sent_link, server_same, server_other, client_same, client_other, view_same, view_other, count_as}
-use Rattle.protocol.specs.Laws.Sound.{link_count, link_used, not_answer}
-use Rattle.protocol.specs.Laws.Formed.{Formed}
+use Rattle.protocol.proofs.Laws.Tests.{and_left, and_right, and_both, by_bool, clash, within_true, bit_le, or_first, or_second}
+use Rattle.protocol.proofs.Laws.Worlds.{content, sent, length_replace, message_new, sent_send, sent_link, server_same, server_other, client_same, client_other, view_same, view_other, count_as}
+use Rattle.protocol.proofs.Laws.Sound.{link_count, link_used, not_answer}
+use Rattle.protocol.proofs.Laws.Formed.{Formed}
 use Rattle.preservation.specs.Formed.{and_first, and_then, Onward, ending_on, phase_on, sent_on, fits_on}
 use Rattle.preservation.specs.Chained.{Chained, chained, chain_fits_lem, all_map, follow_same}
 use Rattle.preservation.specs.Links.{Untaken, Is, taken_is, is_taken_lem, Short, chained_of, link_taken_other, v_taken, v_kind, v_other, link_chained}

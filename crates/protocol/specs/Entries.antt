@@ -1,5 +1,5 @@
 -- Entries and their stamps. Assumes nothing.
-use Rattle.std.specs.Prelude.{ℕ, ◌^◌, Bool, ◌&&◌, ◌||◌, ◌≡◌, refl, List, [], ◌∷◌, ltb, leb, eqb}
+use Rattle.std.specs.Prelude.{ℕ, ◌^◌, Bool, ◌&&◌, ◌||◌, List, [], ◌∷◌, ltb, leb, eqb}
 use Rattle.protocol.specs.Types.{Entry}
 use Rattle.protocol.specs.Tools.{if}
 use Rattle.protocol.specs.Sizes.{clients}
@@ -35,19 +35,6 @@ largest e (x ∷ xs) = largest (larger x e) xs
 abbrev pub chosen : List Entry → Entry
 chosen [] = empty
 chosen (e ∷ es) = largest e es
-
--- the larger stamp stays; of equal ones a server keeps its own, and of a list the answer taken first is chosen
-larger_stamp : larger (entry 1 1 7) (entry 1 2 9) ≡ entry 1 2 9
-unfolding larger below
-larger_stamp = refl
-
-larger_tie : larger (entry 1 1 7) (entry 1 1 9) ≡ entry 1 1 7
-unfolding larger below
-larger_tie = refl
-
-chosen_tie : chosen (entry 1 1 9 ∷ entry 1 1 7 ∷ []) ≡ entry 1 1 7
-unfolding largest larger below
-chosen_tie = refl
 
 -- equal in every field
 unfoldable pub same : Entry → Entry → Bool

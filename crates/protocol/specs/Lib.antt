@@ -8,12 +8,5 @@ pub mod Worlds
 pub mod Chains
 pub mod Readable
 pub mod Steps
-pub mod FormerWrite
 pub mod Consistent
-pub mod Refuted
 pub mod Runs
-pub mod Sessions
-pub mod Exchanges
-pub mod TwoSizes
-pub mod Restarts
-pub mod Laws

@@ -11,7 +11,7 @@ use Rattle.protocol.specs.Servers.{ANSWER, is_request}
 use Rattle.protocol.specs.Worlds.{World, message, present}
 use Rattle.protocol.specs.Chains.{follow, chain}
 use Rattle.protocol.specs.Readable.{taken_answer, distinct, ends, chain_fits, message_fits}
-use Rattle.protocol.specs.Laws.Tests.{by_test, clash, or_cases, all_to_at, all_to_lem}
+use Rattle.protocol.proofs.Laws.Tests.{by_test, clash, or_cases, all_to_at, all_to_lem}
 use Rattle.readable.specs.Tests.{as_one, implied}
 use Rattle.key_holders.specs.Counts.{Each, count_mono, count_ext, count_none, count_same, count_one, count_list, sum_same, sum_ext, swap}
 use Rattle.readable.specs.Links.{Ended, once}

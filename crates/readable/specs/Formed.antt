@@ -10,8 +10,8 @@ use Rattle.protocol.specs.Servers.{READ, ANSWER, is_request}
 use Rattle.protocol.specs.Worlds.{World, view, server, client, message, newest, present}
 use Rattle.protocol.specs.Readable.{is_sent, header_fits, sender_fits, tag_rule, request_fits, next_fits, entry_zero, sent_fits, zero_message, message_fits}
 use Rattle.codec.specs.Laws.{Full}
-use Rattle.protocol.specs.Laws.Tests.{by_test, clash}
-use Rattle.protocol.specs.Laws.Formed.{Formed, header_parts}
+use Rattle.protocol.proofs.Laws.Tests.{by_test, clash}
+use Rattle.protocol.proofs.Laws.Formed.{Formed, header_parts}
 use Rattle.readable.specs.Tests.{if_true, if_false}
 
 -- the lists of a readable world have their full lengths

@@ -5,7 +5,7 @@ use Rattle.protocol.specs.Tools.{any, all, both, join}
 use Rattle.protocol.specs.Worlds.{World, message}
 use Rattle.protocol.specs.Chains.{follow}
 use Rattle.protocol.specs.Readable.{distinct}
-use Rattle.protocol.specs.Laws.Tests.{by_test, clash, or_cases}
+use Rattle.protocol.proofs.Laws.Tests.{by_test, clash, or_cases}
 
 -- one more link allowed meets no more
 pub record Ended (w : World) (left n : ℕ) : Type 0 where

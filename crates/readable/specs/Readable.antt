@@ -24,10 +24,10 @@ use Rattle.codec.specs.Layout.{image_size}
 use Rattle.codec.specs.Records.{EntryFits, ViewFits, ServerFits, ClientFits, MessageFits}
 use Rattle.codec.specs.Images.{encode, decode}
 use Rattle.codec.specs.Laws.{Storable, length_encode, decode_encode}
-use Rattle.protocol.specs.Laws.Tests.{by_test, clash, or_cases, all_to_at}
+use Rattle.protocol.proofs.Laws.Tests.{by_test, clash, or_cases, all_to_at}
 use Rattle.readable.specs.Tests.{implied, if_true, if_false}
 use Rattle.readable.specs.Links.{first_met, next_met}
-use Rattle.protocol.specs.Laws.Formed.{Formed, formed}
+use Rattle.protocol.proofs.Laws.Formed.{Formed, formed}
 use Rattle.readable.specs.Formed.{full_lists, present_in_lem, in_present, sent_at, taken_answer_lem}
 use Rattle.readable.specs.Chains.{chain_parts, taken_parts}
 

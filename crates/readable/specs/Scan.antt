@@ -23,11 +23,11 @@ use Rattle.codec.specs.Laws.{decode_full, used_decode, view_decode, server_decod
 use Rattle.codec.specs.Records.{header_plain}
 use Rattle.codec.specs.Whole.{Plain, view_plain_at, server_plain_at, client_plain_at, message_plain_at, encode_decode, plain_image}
 use Rattle.protocol.specs.Readable.{view_rule, server_rule, message_rule}
-use Rattle.protocol.specs.Laws.Tests.{all_to_at, all_to_lem}
+use Rattle.protocol.proofs.Laws.Tests.{all_to_at, all_to_lem}
 use Rattle.readable.specs.Tests.{as_one}
 use Rattle.key_holders.specs.Counts.{Each}
 use Rattle.key_holders.specs.Holders.{holder_ok, Served}
-use Rattle.protocol.specs.Laws.Formed.{formed, well_formed_lem, header_of_lem, header_parts}
+use Rattle.protocol.proofs.Laws.Formed.{formed, well_formed_lem, header_of_lem, header_parts}
 use Rattle.readable.specs.Formed.{Headed, headed, present_in_lem}
 use Rattle.readable.specs.Chains.{chain_sound, links, is_taken, chains_fit, chains_fit_lem, taken_parts}
 use Rattle.readable.specs.Readable.{readable, Read, read, read_back}

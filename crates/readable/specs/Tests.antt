@@ -2,7 +2,7 @@
 use Rattle.std.specs.Prelude.{◌≡◌, refl, Bool, true, false, not, ◌||◌}
 use Rattle.std.proofs.Common.{sym}
 use Rattle.protocol.specs.Tools.{if}
-use Rattle.protocol.specs.Laws.Tests.{clash}
+use Rattle.protocol.proofs.Laws.Tests.{clash}
 
 -- two tests that pass together are equal
 pub as_one : (a b : Bool) → (a ≡ true → b ≡ true) → (b ≡ true → a ≡ true) → a ≡ b

@@ -13,7 +13,7 @@ use Rattle.protocol.specs.Chains.{follow, chain}
 use Rattle.protocol.specs.Readable.{taken_answer, chain_fits}
 use Rattle.readable.specs.declared.chain.Followed.{Followed}
 use Rattle.readable.specs.declared.chain.Followed.TheVariants.{Whole, Broken}
-use Rattle.protocol.specs.Laws.Tests.{by_test}
+use Rattle.protocol.proofs.Laws.Tests.{by_test}
 use Rattle.readable.specs.Links.{length_follow}
 use Rattle.readable.specs.Chains.{sound, chain_sound, links, chain_parts, parts_sound}
 

@@ -2,7 +2,7 @@
 use Rattle.std.specs.Prelude.{ℕ, ◌≡◌, refl, List, [], ◌∷◌}
 use Rattle.protocol.specs.Tools.{Result, refused, done, guard}
 use Rattle.protocol.specs.Runs.{replay}
-use Rattle.protocol.specs.Sessions.{begun, run_of, write, read, deliver_to, take_one, fault_of, false_answer}
+use Rattle.protocol.proofs.Sessions.{begun, run_of, write, read, deliver_to, take_one, fault_of, false_answer}
 use Rattle.shorten.specs.Passes.{without, dropped, sweep, one_pass, passes}
 use Rattle.shorten.specs.Journals.{stops_with, short_journal, shortened}
 

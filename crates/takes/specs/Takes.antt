@@ -32,10 +32,10 @@ use Rattle.protocol.specs.Worlds.{World, view, client, message, newest, present,
 use Rattle.protocol.specs.Chains.{follow, chain, enough, shown}
 use Rattle.protocol.specs.Steps.{After, moved, request, link, open?, taken_with, at_once, closes, starts, takes, take}
 use Rattle.protocol.specs.Readable.{ending_fits, sender_fits, tag_rule, sent_fits, taken_answer}
-use Rattle.protocol.specs.Laws.Tests.{and_left, and_right, within_true}
-use Rattle.protocol.specs.Laws.Sound.{link_used}
-use Rattle.protocol.specs.Laws.Formed.{Formed}
-use Rattle.protocol.specs.Laws.Tests.{is_within}
+use Rattle.protocol.proofs.Laws.Tests.{and_left, and_right, within_true}
+use Rattle.protocol.proofs.Laws.Sound.{link_used}
+use Rattle.protocol.proofs.Laws.Formed.{Formed}
+use Rattle.protocol.proofs.Laws.Tests.{is_within}
 use Rattle.preservation.specs.Chained.{chained, all_map}
 use Rattle.preservation.specs.Links.{Untaken, taken_is}
 use Rattle.preservation.specs.Updates.{mail_sent, request_of_lem, present_is}

@@ -6,8 +6,8 @@ use Rattle.std.specs.Int.Count.{ones}
 use Rattle.std.proofs.lemmas.Nat.{ones_cat, mod-pow-add}
 use Rattle.protocol.specs.Tools.{if, bit, count_to, holds, bit_of}
 use Rattle.protocol.specs.Sizes.{servers}
-use Rattle.protocol.specs.Laws.Tests.{by_test, clash}
-use Rattle.protocol.specs.Laws.Bits.{holds_bit_of, holds_own, holds_none}
+use Rattle.protocol.proofs.Laws.Tests.{by_test, clash}
+use Rattle.protocol.proofs.Laws.Bits.{holds_bit_of, holds_own, holds_none}
 
 -- the set of number k alone; none for 0 and for a number over 32
 unfoldable pub bit_in : ℕ → ℕ

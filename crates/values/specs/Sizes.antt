@@ -9,7 +9,7 @@ use Rattle.values.specs.declared.sizes.QuorumSize.TheVariants.{SizeRefused, Size
 use Rattle.protocol.specs.Tools.{holds, Result, refused, done, guard}
 use Rattle.protocol.specs.Sizes.{servers, size_rule, quorum, read_of, write_of, Both, quorum_size, size, sized, read_size, write_size, one_exchange}
 use Rattle.protocol.specs.declared.View.{View}
-use Rattle.protocol.specs.Laws.Tests.{and_left, and_right, count_le}
+use Rattle.protocol.proofs.Laws.Tests.{and_left, and_right, count_le}
 
 -- the number and the sizes of each case
 abbrev pub sizing : QuorumSize → Result Both

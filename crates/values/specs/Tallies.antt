@@ -14,8 +14,8 @@ use Rattle.protocol.specs.Sizes.{servers}
 use Rattle.protocol.specs.Entries.{below, larger, largest, chosen, same}
 use Rattle.protocol.specs.Worlds.{World, message}
 use Rattle.protocol.specs.Chains.{tagged, heard, enough, shown, agreed}
-use Rattle.protocol.specs.Laws.Bits.{holds_or}
-use Rattle.protocol.specs.Laws.Entries.{same_is, larger_same, all_one}
+use Rattle.protocol.proofs.Laws.Bits.{holds_or}
+use Rattle.protocol.proofs.Laws.Entries.{same_is, larger_same, all_one}
 use Rattle.values.specs.Bits.{bit_in, bit_held, count_same}
 
 -- the answer just taken

@@ -14,9 +14,9 @@ use Rattle.protocol.specs.Worlds.{World, message, newest, present, with_view, wi
 use Rattle.protocol.specs.Chains.{follow, chain}
 use Rattle.protocol.specs.Steps.{emptied, restarts}
 use Rattle.protocol.specs.Readable.{taken_answer}
-use Rattle.protocol.specs.Laws.Tests.{is_within}
-use Rattle.protocol.specs.Laws.Worlds.{content, sent, count_as}
-use Rattle.protocol.specs.Laws.Moves.{is_done}
+use Rattle.protocol.proofs.Laws.Tests.{is_within}
+use Rattle.protocol.proofs.Laws.Worlds.{content, sent, count_as}
+use Rattle.protocol.proofs.Laws.Moves.{is_done}
 use Rattle.preservation.specs.Chained.{all_map}
 use Rattle.preservation.specs.Links.{taken_is}
 use Rattle.preservation.specs.Emptied.{as_none, as_more, Rooted}

@@ -13,7 +13,7 @@ use Rattle.protocol.specs.Servers.{END}
 use Rattle.protocol.specs.Clients.{call}
 use Rattle.protocol.specs.Worlds.{World, newest, with_view, with_administrator, send, next_number}
 use Rattle.protocol.specs.Steps.{request, new_view}
-use Rattle.protocol.specs.Laws.Tests.{and_right}
+use Rattle.protocol.proofs.Laws.Tests.{and_right}
 use Rattle.codec.specs.Places.{used_at, administrator_at, put_administrator, put_view}
 use Rattle.codec.specs.Images.{encode, decode}
 use Rattle.mail.specs.Images.{Legible, put_sent}

@@ -7,7 +7,7 @@ use Rattle.std.proofs.Math.Option.{Option, none, some}
 use Rattle.protocol.specs.declared.Entry.{Entry}
 use Rattle.protocol.specs.Tools.{if}
 use Rattle.protocol.specs.Entries.{count_of, writer_of, below, same}
-use Rattle.protocol.specs.Laws.Tests.{and_left, and_right, by_bool, last_or, clash}
+use Rattle.protocol.proofs.Laws.Tests.{and_left, and_right, by_bool, last_or, clash}
 use Rattle.vouch.specs.Answers.{entry_shown}
 use Rattle.vouch.specs.Choices.{outranks, better, best_to}
 

@@ -3,7 +3,7 @@
 use Rattle.std.specs.Prelude.{ℕ, zero, suc, ◌+◌, ◌≤◌, ◌<◌, Bool, true, false, not, ◌&&◌, ◌||◌, ◌≡◌, refl, ◌⊎◌, eqb}
 use Rattle.std.proofs.Common.{arith, ap, sym, ◌∙◌, inl, inr, eq-eqb}
 use Rattle.protocol.specs.Tools.{bit, count_to, all_to}
-use Rattle.protocol.specs.Laws.Tests.{or_cases, last_or, clash}
+use Rattle.protocol.proofs.Laws.Tests.{or_cases, last_or, clash}
 use Rattle.vouch.specs.Answers.{some_to}
 
 -- a law on each number's tests is one on the counts

@@ -8,7 +8,7 @@ use Rattle.protocol.specs.declared.Entry.{Entry}
 use Rattle.protocol.specs.Tools.{if}
 use Rattle.protocol.specs.Sizes.{servers}
 use Rattle.protocol.specs.Entries.{count_of, writer_of, below}
-use Rattle.protocol.specs.Laws.Tests.{and_left, and_right, and_both, or_cases, clash}
+use Rattle.protocol.proofs.Laws.Tests.{and_left, and_right, and_both, or_cases, clash}
 use Rattle.vouch.specs.Answers.{answer_count, answerer, entry_shown, shows_by, shows, showing}
 use Rattle.vouch.specs.Choices.{against, candidate, dropped, standing, outranks, best}
 use Rattle.vouch.specs.Counting.{count_mono, some_found, some_at}

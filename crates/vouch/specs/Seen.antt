@@ -10,7 +10,7 @@ use Rattle.protocol.specs.declared.ServerSet.{ServerSet}
 use Rattle.protocol.specs.Tools.{if, count_to, holds}
 use Rattle.protocol.specs.Sizes.{servers}
 use Rattle.protocol.specs.Entries.{below, same}
-use Rattle.protocol.specs.Laws.Bits.{holds_or, holds_none}
+use Rattle.protocol.proofs.Laws.Bits.{holds_or, holds_none}
 use Rattle.values.specs.Bits.{bit_in, bit_held, count_same}
 use Rattle.vouch.specs.Answers.{answer_count, answerer, entry_shown, some_to, shows_by, shows, showing}
 

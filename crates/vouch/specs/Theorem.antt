@@ -14,7 +14,7 @@ use Rattle.protocol.specs.declared.Entry.{Entry}
 use Rattle.protocol.specs.Tools.{count_to, all_to, done, guard}
 use Rattle.protocol.specs.Sizes.{servers}
 use Rattle.protocol.specs.Entries.{below, same}
-use Rattle.protocol.specs.Laws.Tests.{and_left, and_right, and_both, by_bool, all_to_at, within_true, clash}
+use Rattle.protocol.proofs.Laws.Tests.{and_left, and_right, and_both, by_bool, all_to_at, within_true, clash}
 use Rattle.vouch.specs.Answers.{answer_count, answerer, entry_shown, some_to, shows_by, shows, showing}
 use Rattle.vouch.specs.Choices.{support, vouchers, candidate, first_choice}
 use Rattle.vouch.specs.Checks.{values_fit, not_before, answer_fits, sizes_fit, masking_quorum, list_fits, lengths_fit, vouch_on}

@@ -10,7 +10,7 @@ use borrow.Author.Tests.{leb-true, leb-false, not-true, not-false, eqb-true, eq-
 use Rattle.protocol.specs.declared.Entry.{Entry}
 use Rattle.protocol.specs.Tools.{within, all_to, guard}
 use Rattle.protocol.specs.Entries.{below, entry_fits}
-use Rattle.protocol.specs.Laws.Tests.{and_left, and_right, and_both, all_to_at, by_test, clash}
+use Rattle.protocol.proofs.Laws.Tests.{and_left, and_right, and_both, all_to_at, by_test, clash}
 use Rattle.codec.specs.Layout.{entry_width}
 use Rattle.codec.specs.Lists.{put}
 use Rattle.codec.specs.Records.{entry_bytes, length_entry_bytes}

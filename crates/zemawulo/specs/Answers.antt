@@ -3,7 +3,7 @@ use Rattle.std.specs.Prelude.{ℕ, ◌+◌, ◌*◌, ◌/◌, ◌%◌, ◌^◌, 
 use Rattle.std.proofs.Common.{sym, ap, ◌∙◌, arith, eq-eqb, ne_eqb}
 use Rattle.protocol.specs.Tools.{if, bit, within, Result, refused, done}
 use Rattle.protocol.specs.Sizes.{Both}
-use Rattle.protocol.specs.Laws.Tests.{by_test, within_true, is_within}
+use Rattle.protocol.proofs.Laws.Tests.{by_test, within_true, is_within}
 use Rattle.codec.specs.Lists.{put, put_put, put_all}
 use Rattle.codec.specs.Bytes.{le32}
 use Rattle.image.specs.Steps.{Played, unplayed}

@@ -6,8 +6,8 @@ use borrow.Author.Rules.{rules}
 use Rattle.protocol.specs.Worlds.{bad}
 use Rattle.codec.specs.Images.{decode}
 use Rattle.protocol.specs.Tools.{count_to}
-use Rattle.protocol.specs.Laws.Tests.{count_le}
-use Rattle.protocol.specs.Laws.Loops.{count_start, count_more}
+use Rattle.protocol.proofs.Laws.Tests.{count_le}
+use Rattle.protocol.proofs.Laws.Loops.{count_start, count_more}
 use Rattle.key_holders.proofs.bad_servers.Statement.{statement}
 use Rattle.key_holders.proofs.bad_servers.Tie as tie
 

@@ -7,7 +7,7 @@ use borrow.Author.Tests.{not-true, not-false}
 use borrow.Author.Rules.{rules}
 use Rattle.key_holders.specs.Holders.{holder_ok}
 use Rattle.protocol.specs.Tools.{all_to}
-use Rattle.protocol.specs.Laws.Loops.{all_start, all_more, all_fails}
+use Rattle.protocol.proofs.Laws.Loops.{all_start, all_more, all_fails}
 use Rattle.key_holders.proofs.holders_ok.Statement.{statement}
 use Rattle.key_holders.proofs.holders_ok.Tie as tie
 

@@ -1,5 +1,5 @@
 use Rattle.records.specs.Rows.{fail}
-use Rattle.protocol.specs.Laws.Tests.{passed_test, failed_test}
+use Rattle.protocol.proofs.Laws.Tests.{passed_test, failed_test}
 use Rattle.protocol.specs.Tools.{pass}
 use mathlib.Core.Path.{sym, ◌∙◌}
 use borrow.Author.Tests.{le-leb, lt-leb, not-true, not-false}

@@ -1,4 +1,4 @@
-use Rattle.protocol.specs.Laws.Tests.{passed_test, and_both}
+use Rattle.protocol.proofs.Laws.Tests.{passed_test, and_both}
 use mathlib.Core.Path.{sym, ap, ◌∙◌}
 use borrow.Author.Rules.{rules}
 use borrow.Author.Tests.{le-leb, lt-leb, eq-eqb, ne_eqb, not-true, not-false}

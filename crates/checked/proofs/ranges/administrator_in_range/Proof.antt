@@ -1,4 +1,4 @@
-use Rattle.protocol.specs.Laws.Tests.{passed_test, is_true}
+use Rattle.protocol.proofs.Laws.Tests.{passed_test, is_true}
 use mathlib.Core.Path.{sym, ◌∙◌}
 use borrow.Author.Rules.{rules}
 use borrow.Author.Tests.{not-true}

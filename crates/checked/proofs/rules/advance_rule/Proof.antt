@@ -1,4 +1,4 @@
-use Rattle.protocol.specs.Laws.Tests.{passed_test, failed_test}
+use Rattle.protocol.proofs.Laws.Tests.{passed_test, failed_test}
 use Rattle.checked.specs.Guards.{refuse, go_on}
 use mathlib.Core.Bool.{true}
 use mathlib.Core.Path.{◌≡◌, sym, ◌∙◌}

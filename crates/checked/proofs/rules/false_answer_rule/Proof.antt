@@ -1,4 +1,4 @@
-use Rattle.protocol.specs.Laws.Tests.{and_both, passed_test, failed_test}
+use Rattle.protocol.proofs.Laws.Tests.{and_both, passed_test, failed_test}
 use Rattle.checked.specs.Guards.{refuse_number, go_on_number, first_fails, second_fails}
 use borrow.Author.Rules.{rules}
 use Rattle.checked.specs.Rules.{false_answer_rule}

@@ -1,4 +1,4 @@
-use Rattle.protocol.specs.Laws.Tests.{passed_test, failed_test}
+use Rattle.protocol.proofs.Laws.Tests.{passed_test, failed_test}
 use Rattle.checked.specs.Guards.{refuse, go_on}
 use borrow.Author.Rules.{rules}
 use Rattle.checked.specs.Rules.{give_up_rule}

@@ -1,4 +1,4 @@
-use Rattle.protocol.specs.Laws.Tests.{and_both, passed_test, failed_test}
+use Rattle.protocol.proofs.Laws.Tests.{and_both, passed_test, failed_test}
 use Rattle.checked.specs.Guards.{refuse, go_on, first_fails, second_fails}
 use mathlib.Core.Bool.{true}
 use mathlib.Core.Path.{◌≡◌, sym, ◌∙◌}

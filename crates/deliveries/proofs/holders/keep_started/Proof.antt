@@ -1,4 +1,4 @@
-use Rattle.protocol.specs.Laws.Tests.{failed_test}
+use Rattle.protocol.proofs.Laws.Tests.{failed_test}
 use mathlib.Core.Path.{ap, sym, ◌∙◌}
 use mathlib.Core.List.{List}
 use Prim.Native.Nat.{ℕ}

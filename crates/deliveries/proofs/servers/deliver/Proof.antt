@@ -1,4 +1,4 @@
-use Rattle.protocol.specs.Laws.Tests.{passed_test, failed_test, is_false}
+use Rattle.protocol.proofs.Laws.Tests.{passed_test, failed_test, is_false}
 use mathlib.Core.Path.{sym, ◌∙◌}
 use borrow.Author.Tests.{not-true, not-false}
 use Rattle.mail.specs.Stored.{by}

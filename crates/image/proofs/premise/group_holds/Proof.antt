@@ -5,7 +5,7 @@ use native.Mathlib.Omega.{arith}
 use borrow.Author.Tests.{not-true, not-false}
 use borrow.Author.Rules.{rules}
 use Rattle.protocol.specs.Tools.{all_to}
-use Rattle.protocol.specs.Laws.Loops.{all_start, all_more, all_fails}
+use Rattle.protocol.proofs.Laws.Loops.{all_start, all_more, all_fails}
 use Rattle.image.specs.Premise.{within, group, none_held}
 use Rattle.image.proofs.premise.group_holds.Statement.{statement}
 use Rattle.image.proofs.premise.group_holds.Tie as tie

@@ -6,7 +6,7 @@ use borrow.Author.Tests.{not-true, not-false}
 use borrow.Author.Rules.{rules}
 use Rattle.protocol.specs.Tools.{all_to}
 use Rattle.protocol.specs.Sizes.{views}
-use Rattle.protocol.specs.Laws.Loops.{all_start}
+use Rattle.protocol.proofs.Laws.Loops.{all_start}
 use Rattle.readable.specs.Readable.{read}
 use Rattle.image.specs.Premise.{within, group, group_more, group_fails, premise_bytes}
 use Rattle.image.proofs.premise.premise_holds.Statement.{statement}

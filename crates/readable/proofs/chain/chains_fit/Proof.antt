@@ -8,8 +8,8 @@ use Rattle.protocol.specs.Sizes.{messages}
 use Rattle.protocol.specs.Tools.{pass, sum_to, count_to, all_to}
 use Rattle.codec.specs.Images.{decode}
 use Rattle.readable.specs.Scan.{open_used, chains_rule}
-use Rattle.protocol.specs.Laws.Tests.{count_le}
-use Rattle.protocol.specs.Laws.Loops.{all_start, all_more, all_fails, count_start, count_more, sum_start, sum_more}
+use Rattle.protocol.proofs.Laws.Tests.{count_le}
+use Rattle.protocol.proofs.Laws.Loops.{all_start, all_more, all_fails, count_start, count_more, sum_start, sum_more}
 use Rattle.readable.specs.Walks.{followed, chained_links, whole, broken, no_chain, links_most}
 use Rattle.readable.specs.Chains.{chain_sound, links, is_taken}
 use Rattle.readable.proofs.chain.chains_fit.Statement.{statement}

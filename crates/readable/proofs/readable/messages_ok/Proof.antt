@@ -10,7 +10,7 @@ use Rattle.readable.specs.Scan.{message_ok, messages_ok, open_used}
 use Rattle.protocol.specs.Sizes.{messages}
 use Rattle.codec.specs.Places.{used_at}
 use Rattle.readable.specs.Beyond.{beyond_zero}
-use Rattle.protocol.specs.Laws.Loops.{all_start, all_more, all_fails}
+use Rattle.protocol.proofs.Laws.Loops.{all_start, all_more, all_fails}
 use Rattle.readable.proofs.readable.messages_ok.Statement.{statement}
 use Rattle.readable.proofs.readable.messages_ok.Tie as tie
 

@@ -8,7 +8,7 @@ use borrow.Author.Rules.{rules}
 use Rattle.protocol.specs.Readable.{last_of}
 use Rattle.readable.specs.Scan.{view_ok, open_high}
 use Rattle.protocol.specs.Tools.{all_to}
-use Rattle.protocol.specs.Laws.Loops.{all_start, all_more, all_fails}
+use Rattle.protocol.proofs.Laws.Loops.{all_start, all_more, all_fails}
 use Rattle.readable.proofs.readable.views_ok.Statement.{statement}
 use Rattle.readable.proofs.readable.views_ok.Tie as tie
 

@@ -1,7 +1,7 @@
 use mathlib.Core.Path.{refl, sym, ap, ◌∙◌}
 use Rattle.codec.specs.Images.{decode}
 use Rattle.protocol.specs.Steps.{row_of, new_view, restarts}
-use Rattle.protocol.specs.Laws.Kinds.{client_of_lem as who_client, server_of_lem as who_server, source_of, kind_last}
+use Rattle.protocol.proofs.Laws.Kinds.{client_of_lem as who_client, server_of_lem as who_server, source_of, kind_last}
 use Rattle.mail.specs.Stored.{by}
 use Rattle.world.specs.Performs.{as_write, as_read, as_deliver, as_take, as_fault, as_false, as_view, as_give_up, as_restart}
 use borrow.Author.Rules.{rules}

@@ -6,7 +6,7 @@ use Rattle.protocol.specs.Tools.{within, all_to}
 use Rattle.protocol.specs.Sizes.{clients, servers, views, messages}
 use Rattle.protocol.specs.Worlds.{World, message, newest}
 use Rattle.protocol.specs.Readable.{shape, ending_fits, header_fits, view_fits, server_fits, client_fits, zero_message, message_fits, chain_fits, well_formed}
-use Rattle.protocol.specs.Laws.Tests.{and_left, and_right, and_both, within_true, is_within, all_to_at, all_to_lem}
+use Rattle.protocol.proofs.Laws.Tests.{and_left, and_right, and_both, within_true, is_within, all_to_at, all_to_lem}
 
 -- the clauses, one by one
 pub record Formed (w : World) : Type 0 where

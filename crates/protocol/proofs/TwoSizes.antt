@@ -9,7 +9,7 @@ use Rattle.protocol.specs.Clients.{WRITES, READS, number}
 use Rattle.protocol.specs.Worlds.{fresh_world, fresh, client, newest}
 use Rattle.protocol.specs.Consistent.{Operation}
 use Rattle.protocol.specs.Runs.{Run, Replayed, replay, run_from, history}
-use Rattle.protocol.specs.Sessions.{bytes, write, read, deliver_to, take_one, run_of, operations_of, Stop, stop_of, stops, operated}
+use Rattle.protocol.proofs.Sessions.{bytes, write, read, deliver_to, take_one, run_of, operations_of, Stop, stop_of, stops, operated}
 
 -- a new view with a read size
 new_view_lem : ℕ → ℕ → ℕ → List ℕ

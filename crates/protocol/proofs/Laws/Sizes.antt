@@ -5,7 +5,7 @@ use Rattle.std.proofs.Common.{arith, leb-true}
 use Rattle.protocol.specs.Types.{View}
 use Rattle.protocol.specs.Tools.{if, Result, refused, done, guard}
 use Rattle.protocol.specs.Sizes.{size_rule, quorum, read_of, write_of, Both, quorum_size, size, sized, read_size, write_size, one_exchange}
-use Rattle.protocol.specs.Laws.Tests.{and_left, and_right}
+use Rattle.protocol.proofs.Laws.Tests.{and_left, and_right}
 
 -- a size of document 01's list: n, f
 pub record Pair : Type 0 where

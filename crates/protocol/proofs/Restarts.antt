@@ -9,7 +9,7 @@ use Rattle.protocol.specs.Clients.{WRITES, READS, number}
 use Rattle.protocol.specs.Worlds.{view, client, message, newest}
 use Rattle.protocol.specs.Chains.{chain, follow}
 use Rattle.protocol.specs.Steps.{request}
-use Rattle.protocol.specs.Sessions.{bytes, write, read, deliver_to, take_one, fault_of, false_answer, new_view_lem, restart_with, run_of, operations_of, premise_after, stop_of, stops, operated}
+use Rattle.protocol.proofs.Sessions.{bytes, write, read, deliver_to, take_one, fault_of, false_answer, new_view_lem, restart_with, run_of, operations_of, premise_after, stop_of, stops, operated}
 
 -- ---- "It restarted between END and START without the answers taken."
 

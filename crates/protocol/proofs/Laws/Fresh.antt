@@ -8,7 +8,7 @@ use Rattle.protocol.specs.Sizes.{servers, clients, views, messages}
 use Rattle.protocol.specs.Entries.{empty}
 use Rattle.protocol.specs.Clients.{is_ending}
 use Rattle.protocol.specs.Worlds.{no_view, no_server, no_client, no_message, view, server, client, message, newest, fresh_server, list_to, fresh_world}
-use Rattle.protocol.specs.Laws.Tests.{by_bool}
+use Rattle.protocol.proofs.Laws.Tests.{by_bool}
 
 get_d_list_to : {A : Type 0} (g : ℕ → A) (n k : ℕ) (d : A) → (get_or (list_to g n) k d ≡ g (suc k)) ⊎ (get_or (list_to g n) k d ≡ d)
 unfolding list_to

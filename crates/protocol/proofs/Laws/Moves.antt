@@ -16,13 +16,13 @@ use Rattle.protocol.specs.Entries.{empty, larger}
 use Rattle.protocol.specs.Servers.{READ, WRITE, END, START, ANSWER, is_request, Reply, answering, comparing, replacing, without_key, joining, gathering, read, write, end, start, serve, may_answer}
 use Rattle.protocol.specs.Worlds.{World, view, server, client, message, newest, member, present, room, with_server, send}
 use Rattle.protocol.specs.Steps.{After, moved, answer, answers, deliver, fault, source?, lie}
-use Rattle.protocol.specs.Laws.Tests.{and_left, and_right, and_both, or_cases, by_test, clash, within_true, went}
-use Rattle.protocol.specs.Laws.Bits.{holds_bit_of, holds_or, holds_none}
-use Rattle.protocol.specs.Laws.Entries.{◌≼◌, ≼_refl, larger_left, larger_right, larger_one}
-use Rattle.protocol.specs.Laws.Worlds.{content, sent, sent_send, message_new, server_same, server_other, length_replace}
-use Rattle.protocol.specs.Laws.Kinds.{IsServer}
-use Rattle.protocol.specs.Laws.Change.{Sent, stay, join, Given, Carried, written, begun, Grew, Honest, Asked, Shows, nothing, old, its, Said, Acted, same, New, Posted, none as unsent, one, Change, Moved}
-use Rattle.protocol.specs.Laws.Sound.{Mail, Sound, mail_same, sized_same, sound_send, asked_on}
+use Rattle.protocol.proofs.Laws.Tests.{and_left, and_right, and_both, or_cases, by_test, clash, within_true, went}
+use Rattle.protocol.proofs.Laws.Bits.{holds_bit_of, holds_or, holds_none}
+use Rattle.protocol.proofs.Laws.Entries.{◌≼◌, ≼_refl, larger_left, larger_right, larger_one}
+use Rattle.protocol.proofs.Laws.Worlds.{content, sent, sent_send, message_new, server_same, server_other, length_replace}
+use Rattle.protocol.proofs.Laws.Kinds.{IsServer}
+use Rattle.protocol.proofs.Laws.Change.{Sent, stay, join, Given, Carried, written, begun, Grew, Honest, Asked, Shows, nothing, old, its, Said, Acted, same, New, Posted, none as unsent, one, Change, Moved}
+use Rattle.protocol.proofs.Laws.Sound.{Mail, Sound, mail_same, sized_same, sound_send, asked_on}
 
 -- ---- forms that the steps share
 

@@ -5,7 +5,7 @@ use Rattle.protocol.specs.Entries.{entry}
 use Rattle.protocol.specs.Clients.{WRITES, READS, number}
 use Rattle.protocol.specs.Worlds.{World, client, message, with_message}
 use Rattle.protocol.specs.Runs.{run_from}
-use Rattle.protocol.specs.Sessions.{write, read, deliver_to, take_one, fault_of, false_answer, new_view_lem, run_of, operations_of, premise_after, stop_of, stops, operated}
+use Rattle.protocol.proofs.Sessions.{write, read, deliver_to, take_one, fault_of, false_answer, new_view_lem, run_of, operations_of, premise_after, stop_of, stops, operated}
 
 -- ---- "Equality of reads ... must survive view changes between the two", on servers 1 to 4 with f 1
 

@@ -14,7 +14,7 @@ use Rattle.protocol.specs.Worlds.{World, view, client, message, newest, fresh}
 use Rattle.protocol.specs.Steps.{After, answers, taken_with, begins, deliver, closes, starts, takes, take, fault, lie, new_view, gives_up, restarts, perform, step}
 use Rattle.protocol.specs.Chains.{enough}
 use Rattle.protocol.specs.Runs.{step_bytes, Replayed, onward, replay}
-use Rattle.protocol.specs.Laws.Tests.{and_left, and_right, or_cases, within_true}
+use Rattle.protocol.proofs.Laws.Tests.{and_left, and_right, or_cases, within_true}
 
 -- n is one of the numbers ns
 abbrev pub among : ℕ → List ℕ → Bool

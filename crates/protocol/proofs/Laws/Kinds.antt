@@ -10,7 +10,7 @@ use Rattle.protocol.specs.Sizes.{clients, servers, messages, last_count}
 use Rattle.protocol.specs.Clients.{WRITES, READS}
 use Rattle.protocol.specs.Worlds.{World}
 use Rattle.protocol.specs.Steps.{write_step, read_step, deliver_step, take_step, fault_step, false_step, view_step, give_up_step, restart_step, CLIENT, SERVER, VIEW, F, MESSAGE, SOURCE, VALUE, row_of, uses, view_range, threshold_range, message_range, source_range, value_range, who_used, who_range, field, restart_fits, fields_fit, After, begins, deliver, take, fault, lie, view_asked, new_view, gives_up, restarts, perform}
-use Rattle.protocol.specs.Laws.Tests.{and_left, and_right, within_true}
+use Rattle.protocol.proofs.Laws.Tests.{and_left, and_right, within_true}
 
 -- the number of a client, and of a server
 pub record IsClient (c : ℕ) : Type 0 where

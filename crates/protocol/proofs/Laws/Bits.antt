@@ -7,7 +7,7 @@ use Rattle.std.proofs.Math.Pow.{pow-lt}
 use Rattle.std.specs.Int.Bits.{bit_or, or_step}
 use Rattle.std.proofs.lemmas.Nat.{or_shr}
 use Rattle.protocol.specs.Tools.{holds, bit_of}
-use Rattle.protocol.specs.Laws.Tests.{clash}
+use Rattle.protocol.proofs.Laws.Tests.{clash}
 
 -- a power of two over a larger one, and over a smaller one
 digit_low : (a b : ℕ) → a < b → 2 ^ a / 2 ^ b % 2 ≡ 0

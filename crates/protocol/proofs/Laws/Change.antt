@@ -8,8 +8,8 @@ use Rattle.protocol.specs.Entries.{empty}
 use Rattle.protocol.specs.Servers.{READ, WRITE, END, START, ANSWER, is_request}
 use Rattle.protocol.specs.Clients.{READS, number, to_write, given_by}
 use Rattle.protocol.specs.Worlds.{World, view, server, client, newest, member}
-use Rattle.protocol.specs.Laws.Entries.{◌≼◌}
-use Rattle.protocol.specs.Laws.Worlds.{sent}
+use Rattle.protocol.proofs.Laws.Entries.{◌≼◌}
+use Rattle.protocol.proofs.Laws.Worlds.{sent}
 
 -- a server may lie under a key that it holds
 abbrev pub lying : Server → ℕ → Bool

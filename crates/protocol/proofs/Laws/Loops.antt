@@ -3,7 +3,7 @@ use Rattle.std.specs.Prelude.{◌≡◌, Bool, true, false, ℕ, ◌+◌, ◌≤
 use Rattle.std.proofs.Math.Path.{refl}
 use Rattle.std.proofs.Math.Numerals.{add-one}
 use Rattle.protocol.specs.Tools.{bit, count_to, all_to, sum_to, join}
-use Rattle.protocol.specs.Laws.Tests.{by_test, clash, all_to_at}
+use Rattle.protocol.proofs.Laws.Tests.{by_test, clash, all_to_at}
 
 module _ (p : ℕ → Bool) where
   pub count_start : count_to p 0 ≡ 0

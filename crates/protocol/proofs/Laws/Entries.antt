@@ -5,7 +5,7 @@ use Rattle.std.proofs.lemmas.Bool.{eqb-false}
 use Rattle.protocol.specs.Types.{Entry}
 use Rattle.protocol.specs.Tools.{if, all}
 use Rattle.protocol.specs.Entries.{count_of, writer_of, below, larger, largest, chosen, same}
-use Rattle.protocol.specs.Laws.Tests.{and_left, and_right, or_cases, clash, and_both, by_test}
+use Rattle.protocol.proofs.Laws.Tests.{and_left, and_right, or_cases, clash, and_both, by_test}
 
 infix 50 ◌≼◌
 -- the stamp of a is at most that of b

@@ -16,10 +16,10 @@ use Rattle.protocol.specs.Clients.{is_ending}
 use Rattle.protocol.specs.Worlds.{World, view, message, newest, with_message, send, as_sent}
 use Rattle.protocol.specs.Chains.{follow, chain, tagged, heard, enough, shown, agreed}
 use Rattle.protocol.specs.Steps.{link, taken_with}
-use Rattle.protocol.specs.Laws.Tests.{and_left, and_right, clash, last_or, Each, none, both, any_found, within_true}
-use Rattle.protocol.specs.Laws.Entries.{Listed, head, tail, chosen_le, chosen_one, same_is}
-use Rattle.protocol.specs.Laws.Worlds.{content, sent, message_same, message_other, sent_link, sent_send, message_send, message_new, message_as, sent_as, count_as}
-use Rattle.protocol.specs.Laws.Change.{Votes, To, Chosen, Asked, Showed}
+use Rattle.protocol.proofs.Laws.Tests.{and_left, and_right, clash, last_or, Each, none, both, any_found, within_true}
+use Rattle.protocol.proofs.Laws.Entries.{Listed, head, tail, chosen_le, chosen_one, same_is}
+use Rattle.protocol.proofs.Laws.Worlds.{content, sent, message_same, message_other, sent_link, sent_send, message_send, message_new, message_as, sent_as, count_as}
+use Rattle.protocol.proofs.Laws.Change.{Votes, To, Chosen, Asked, Showed}
 
 -- message k is an answer to request r
 pub record Answer (w : World) (r k : ℕ) : Type 0 where
