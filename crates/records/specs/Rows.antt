@@ -1,5 +1,5 @@
 -- A row of tests of which one fails. Assumes nothing.
-use Rattle.std.specs.Prelude.{Bool, true, false, ◌&&◌, ◌≡◌}
+use Rattle.std.specs.Prelude.{Bool, false, ◌&&◌, ◌≡◌}
 
 -- a test of the row fails, and so does the row (beside `pass`)
 pub fail : (a b : Bool) → a ≡ false → false ≡ a && b
