@@ -1,6 +1,6 @@
 // The program: standard input to lines.
 #![tactic(auto)]
 
-fn main() {
-    archive_run::run();
+fn main(rt: HostRuntime) {
+    archive_run::run(&rt);
 }

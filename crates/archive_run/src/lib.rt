@@ -7,8 +7,9 @@ ghost use Rattle.mail.specs.Images.{Legible};
 ghost use Rattle.archive_run.specs.Loop.{Led, Stops, Says};
 
 use codec::layout::{IMAGE, STEP};
-use libc::{STDIN_FILENO, STDOUT_FILENO};
 use lines::{LINE, done_line};
+use std::io::{Read, Write, writer};
+use streams::{read_full, write_all};
 use turns::{Moved, first, turn};
 
 // What a turn left to do: the next one, or the last line with the refusal of the stop or 0.
@@ -25,26 +26,26 @@ struct Ended {
     refusal: u8,
 }
 
-fn print(line: &[u8], n: usize) {
+fn print<W: Write>(output: &mut W, line: &[u8], n: usize) {
     if n <= line.len() {
-        io::write_all(STDOUT_FILENO, &line[..n]);
+        write_all(output, &line[..n]);
     }
 }
 
-fn finish(steps: u64, refusal: u8) {
+fn finish<W: Write>(output: &mut W, steps: u64, refusal: u8) {
     let mut line = [0u8; LINE];
     let n = done_line(&mut line, steps, refusal);
-    print(&line, n);
+    print(output, &line, n);
 }
 
 // Reads a record, takes its step and prints the line of the operation that it completed.
-fn next(image: &mut [u8]) -> Onward
+fn next<R: Read, W: Write>(input: &mut R, output: &mut W, image: &mut [u8]) -> Onward
     requires { Legible image.old }
     ensures { Says result image.old image.new }
 {
     let mut bytes = [0u8; STEP];
     let mut line = [0u8; LINE];
-    let got = io::read_full(STDIN_FILENO, &mut bytes);
+    let got = read_full(input, &mut bytes);
     if got == 0 {
         return Onward::Stop(0);
     }
@@ -52,7 +53,7 @@ fn next(image: &mut [u8]) -> Onward
     match t {
         Moved::Stopped(refusal) => Onward::Stop(refusal),
         Moved::Went(n) => {
-            print(&line, n);
+            print(output, &line, n);
             Onward::More
         }
     }
@@ -62,13 +63,13 @@ fn next(image: &mut [u8]) -> Onward
 const TURNS: u64 = 18446744073709551615;
 
 // Turns until one stops.
-fn steps(image: &mut [u8]) -> Ended
+fn steps<R: Read, W: Write>(input: &mut R, output: &mut W, image: &mut [u8]) -> Ended
     requires { Legible image.old }
     ensures { Led image.old result.steps image.new × Stops image.new result.refusal }
 {
     let mut k = 0u64;
     while k < TURNS {
-        if let Onward::Stop(refusal) = next(image) {
+        if let Onward::Stop(refusal) = next(input, output, image) {
             return Ended {
                 steps: k,
                 refusal: refusal,
@@ -83,15 +84,17 @@ fn steps(image: &mut [u8]) -> Ended
 }
 
 // The whole program.
-pub fn run() {
+pub fn run(rt: &(impl Input + Print)) {
+    let mut input = rt.reader();
+    let mut output = writer(rt);
     let mut image = [0u8; IMAGE];
     let mut bytes = [0u8; STEP];
-    let got = io::read_full(STDIN_FILENO, &mut bytes);
+    let got = read_full(&mut input, &mut bytes);
     let refusal = first(&mut image, &bytes[..got]);
     if refusal != 0 {
-        finish(0, refusal);
+        finish(&mut output, 0, refusal);
         return;
     }
-    let e = steps(&mut image);
-    finish(e.steps, e.refusal);
+    let e = steps(&mut input, &mut output, &mut image);
+    finish(&mut output, e.steps, e.refusal);
 }

@@ -6,12 +6,15 @@ ghost use Rattle.std.specs.Prelude.{◌≡◌, ◌*◌, ◌≤◌, ◌<◌, leng
 ghost use Rattle.protocol.specs.Runs.{step_width};
 ghost use Rattle.loads.specs.Load.{load_from};
 
-use libc::{STDIN_FILENO, STDOUT_FILENO};
 use loads::draws::start;
 use loads::journal::{STEP, fill};
+use std::io::{Write, writer};
+use streams::{read_full, write_all};
 
 // A journal is written in pieces of at most so many steps, as many as a buffer holds.
 const PIECE: u32 = 341;
+
+const BUFFER: usize = 4096;
 
 // The state after a piece, and whether it was written.
 #[derive(Clone, Copy)]
@@ -40,34 +43,34 @@ fn next(left: u32) -> u32
 }
 
 // Writes steps from a state on, through a buffer.
-fn through(buffer: &mut [u8], state: u32, steps: u32) -> Written
+fn through<W: Write>(output: &mut W, buffer: &mut [u8], state: u32, steps: u32) -> Written
     requires { step_width * steps ≤ length buffer.old }
     ensures { result.state ≡ (load_from state steps).state }
 {
     let end = STEP * (steps as usize);
     let s = fill(&mut buffer[..end], state, steps);
-    let whole = io::write_all(STDOUT_FILENO, &buffer[..end]);
+    let whole = write_all(output, &buffer[..end]);
     Written {
         state: s,
         whole: whole,
     }
 }
 
-fn piece(state: u32, steps: u32) -> Written
+fn piece<W: Write>(output: &mut W, state: u32, steps: u32) -> Written
     requires { steps ≤ 341 }
     ensures { result.state ≡ (load_from state steps).state }
 {
-    let mut buffer = io::buffer();
-    through(&mut buffer, state, steps)
+    let mut buffer = [0u8; BUFFER];
+    through(output, &mut buffer, state, steps)
 }
 
 // Writes piece after piece, each from the state where the last one ended.
-fn pieces(state: u32, steps: u32) {
+fn pieces<W: Write>(output: &mut W, state: u32, steps: u32) {
     let mut s = state;
     let mut left = steps;
     while 0 < left {
         let n = next(left);
-        let w = piece(s, n);
+        let w = piece(output, s, n);
         if !w.whole {
             return;
         }
@@ -76,12 +79,12 @@ fn pieces(state: u32, steps: u32) {
     }
 }
 
-fn main() {
+fn main(rt: HostRuntime) {
     let mut b = [0u8; 8];
-    let got = io::read_full(STDIN_FILENO, &mut b);
+    let got = read_full(&mut rt.reader(), &mut b);
     if got == 8 {
         let seed = word(b[0], b[1], b[2], b[3]);
         let steps = word(b[4], b[5], b[6], b[7]);
-        pieces(start(seed), steps);
+        pieces(&mut writer(&rt), start(seed), steps);
     }
 }

@@ -1,6 +1,6 @@
 // The program: standard input to lines.
 #![tactic(auto)]
 
-fn main() {
-    judge_run::run();
+fn main(rt: HostRuntime) {
+    judge_run::run(&rt);
 }
