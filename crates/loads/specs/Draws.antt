@@ -1,14 +1,13 @@
 -- Draws, and the step that they make: `draw`, `drawn`, `drawn_step`. What a field takes is in its range: `drawn_fits`, `drawn_high`; so it
 -- has room in the field: `byte_fits`, `half_fits`. A used value is the draw itself: `value_is_draw`. The ways out of the code: `places_made`, `numbers_made`, `step_made` and those before
 -- them. Used by the code of `draws` and `steps`, and by Load and Passes. Assumes nothing.
-use Rattle.std.specs.Prelude.{ℕ, suc, ◌+◌, ◌-◌, ◌*◌, ◌/◌, ◌%◌, ◌^◌, ◌≤◌, ◌<◌, Bool, ◌≡◌, eqb}
+use Rattle.std.specs.Prelude.{ℕ, ◌+◌, ◌-◌, ◌*◌, ◌/◌, ◌%◌, ◌^◌, ◌≤◌, ◌<◌, Bool, ◌≡◌, eqb}
 use Rattle.std.proofs.Common.{mod-lt, mod-eq_of_lt, add-zero, arith, ◌∙◌, Fits, le-leb, ne_eqb}
 use Rattle.std.proofs.Math.Bool.{true, false, not}
 use Rattle.std.proofs.Math.Path.{refl}
 use Rattle.std.specs.Int.Bits.{bit_xor}
 use Rattle.std.proofs.lemmas.Nat.{xor_lt}
 use Rattle.std.specs.Int.{w8, w16, w32}
-use Rattle.protocol.specs.declared.Step.{Step}
 use Rattle.protocol.specs.declared.Range.{Range}
 use Rattle.protocol.specs.Tools.{if}
 use Rattle.protocol.specs.Clients.{number}

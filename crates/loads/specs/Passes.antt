@@ -1,20 +1,18 @@
 -- "each step passes check 3": `step_passes`, of every drawn step; `load_passes`, of every step of every load as it is read from its
 -- journal. By the table alone: `drawn_fits` for each field, and no split by kind. Assumes nothing.
 use Rattle.std.specs.Prelude.{ℕ, zero, suc, ◌+◌, ◌*◌, ◌/◌, ◌%◌, ◌^◌, ◌≤◌, ◌<◌, Bool, true, false, ◌||◌, ◌⊎◌, ◌≡◌, refl, List, ◌++◌, length, take, drop}
-use Rattle.std.proofs.Common.{not-suc-le-zero, le_of_eq, arith, inl, inr, sym, ap, ◌∙◌, length-drop, drop_at, take_all, le-leb, ne_eqb}
+use Rattle.std.proofs.Common.{not-suc-le-zero, le_of_eq, arith, inl, inr, ap, ◌∙◌, length-drop, drop_at, take_all, le-leb, ne_eqb}
 use Rattle.std.proofs.lemmas.List.{drop-append-le, take-append-le}
 use Rattle.protocol.specs.declared.Step.{Step}
 use Rattle.protocol.specs.declared.Range.{Range}
 use Rattle.protocol.proofs.Laws.Tests.{within_true, last_or}
-use Rattle.protocol.proofs.Laws.Kinds.{Fitting, fits}
+use Rattle.protocol.proofs.Laws.Kinds.{fits}
 use Rattle.protocol.specs.Steps.{write_step, restart_step, CLIENT, SERVER, SIZE, VIEW, F, MESSAGE, SOURCE, VALUE, row_of, in_row, field, restart_fits, fields_fit, last_word}
 use Rattle.protocol.specs.Steps.{range, view_range, threshold_range, message_range, source_range, value_range, client_range, server_range, read_range, who_named, who_used, who_range}
 use Rattle.protocol.specs.Tools.{if}
 use Rattle.protocol.specs.Sizes.{messages}
 use Rattle.protocol.specs.Runs.{step_width, step_of}
 use Rattle.loads.specs.declared.Drawn.{Drawn}
-use Rattle.loads.specs.declared.DrawnPlaces.{DrawnPlaces}
-use Rattle.loads.specs.declared.DrawnNumbers.{DrawnNumbers}
 use Rattle.loads.specs.Draws.{start, drawn, load_kinds, load_thresholds, drawn_places, drawn_numbers, drawn_step, drawn_fits, drawn_high}
 use Rattle.loads.specs.Load.{spelled, longer, load_from, journal_of, length_spelled, length_load}
 

@@ -40,7 +40,7 @@ fn put_step(journal: &mut [u8], at: usize, st: Step)
     ensures { journal.new ≡ put_step journal.old at st }
 {
     let bytes = step_bytes(st);
-    bytes::copy(&bytes, &mut journal[at..at + STEP]);
+    journal[at..at + STEP].copy_from_slice(&bytes);
 }
 
 // Writes the steps from a state on, and hands back the state after them.

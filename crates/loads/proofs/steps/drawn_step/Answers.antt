@@ -1,0 +1,6 @@
+use Rattle.loads.specs.Draws.{step_made}
+use borrow.Author.Rules.{rules}
+use Rattle.loads.proofs.steps.drawn_step.Goals as goal
+
+pub returns : goal.returns
+returns c = search (step_made, rules) depth 7 fits 4000
