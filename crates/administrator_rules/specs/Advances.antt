@@ -1,5 +1,5 @@
 -- END's close where a view is left. Assumes nothing.
-use Rattle.std.specs.Prelude.{ℕ, ◌<◌, ◌≡◌, ltb}
+use Rattle.std.specs.Prelude.{◌<◌, ◌≡◌, ltb}
 use Rattle.std.proofs.Common.{lt-ltb}
 use Rattle.protocol.specs.declared.Administrator.{Administrator}
 use Rattle.protocol.specs.Tools.{Result, done, guard}

@@ -8,7 +8,7 @@ ghost use Rattle.archive_run.specs.Loop.{Led, Stops, Says};
 
 use codec::layout::{IMAGE, STEP};
 use lines::{LINE, done_line};
-use std::io::{Read, Write, writer};
+use std::io::{Read, Write};
 use streams::{read_full, write_all};
 use turns::{Moved, first, turn};
 
@@ -84,9 +84,9 @@ fn steps<R: Read, W: Write>(input: &mut R, output: &mut W, image: &mut [u8]) -> 
 }
 
 // The whole program.
-pub fn run(rt: &(impl Input + Print)) {
-    let mut input = rt.reader();
-    let mut output = writer(rt);
+pub fn run(rt: &HostRuntime) {
+    let mut input = rt.stdin();
+    let mut output = rt.stdout();
     let mut image = [0u8; IMAGE];
     let mut bytes = [0u8; STEP];
     let got = read_full(&mut input, &mut bytes);

@@ -8,7 +8,7 @@ use judging::Judgement;
 use judging::judge::{PLACE, judge};
 use judging::log::{LOG_LINE, LOG_LINES};
 use lines::{LINE, done_line};
-use std::io::{Write, writer};
+use std::io::Write;
 use streams::{read_full, write_all};
 use text::place_line;
 
@@ -55,10 +55,10 @@ fn settle<W: Write>(output: &mut W, log: &[u8], order: &mut [u8]) {
 }
 
 // The whole program.
-pub fn run(rt: &(impl Input + Print)) {
+pub fn run(rt: &HostRuntime) {
     let mut log = [0u8; LOG_ROOM];
     let mut order = [0u8; ORDER_ROOM];
-    let got = read_full(&mut rt.reader(), &mut log);
+    let got = read_full(&mut rt.stdin(), &mut log);
     let room = PLACE * (got / LOG_LINE);
-    settle(&mut writer(rt), &log[..got], &mut order[..room]);
+    settle(&mut rt.stdout(), &log[..got], &mut order[..room]);
 }

@@ -23,6 +23,7 @@ in_map f (x ∷ l) (here e) = record { of = x; member = here refl; is = e }
 in_map f (x ∷ l) (there i) = let r = in_map f l i in record { of = r.of; member = there r.member; is = r.is }
 
 pub map_in : {A B : Type 0} (f : A → B) (l : List A) {x : A} → In x l → In (f x) (map f l)
+map_in {A = A} {B = B} f [] x3 = elim x3 [ ]
 map_in f (y ∷ l) (here e) = here (ap f e)
 map_in f (y ∷ l) (there i) = there (map_in f l i)
 
@@ -66,6 +67,7 @@ same_in e i = rw e i
 
 -- of two operations of an order only one stands before the other
 pub one_way : {x y : Operation} {l : List Operation} → Once l → Before x y l → Before y x l → ⊥
+one_way {y = y} Rattle.protocol.specs.Consistent.none x6 _ = elim x6 [ ]
 one_way (one n o) (now e i) (now f j) = n (same_in f i)
 one_way (one n o) (now e i) (later c) = n (same_in e (behind_in c))
 one_way (one n o) (later b) (now f j) = n (same_in f (behind_in b))
@@ -78,6 +80,7 @@ pub data From (e : Option Entry) (l : List Operation) (x : Operation) : Type 0 w
   from : (w : Operation) → w.kind ≡ WRITES → w.entry ≡ x.entry → Before w x l → From e l x
 
 pub returned_from : {e : Option Entry} {l : List Operation} {x : Operation} → Reads e l → In x l → x.kind ≡ READS → From e l x
+returned_from (Rattle.protocol.specs.Consistent.end {e = e}) x11 h = elim x11 [ ]
 returned_from (write k r) (here q) h = absurd (omega (arith, ap (λ (o : Operation). o.kind) q))
 returned_from (write {x = w} k r) (there i) h = go i (returned_from r i h)
   where
@@ -102,6 +105,7 @@ first_read e l y r i h n = go (returned_from r i h)
 
 pub equal_reads : (e : Option Entry) (l : List Operation) (x y : Operation) → Reads e l → x.kind ≡ READS → y.kind ≡ READS → Before x y l
     → ((z : Operation) → z.kind ≡ WRITES → Before x z l → Before z y l → ⊥) → x.entry ≡ y.entry
+equal_reads e [] x y _ hx hy x8 n = elim x8 [ ]
 equal_reads e (w ∷ l) x y (write k r) hx hy (now q i) n = absurd (omega (arith, ap (λ (o : Operation). o.kind) q))
 equal_reads e (w ∷ l) x y (write k r) hx hy (later b) n = equal_reads w.entry l x y r hx hy b (λ z t f g. n z t (later f) (later g))
 equal_reads e (w ∷ l) x y (read k f r) hx hy (now q i) n =

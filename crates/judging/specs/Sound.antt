@@ -117,11 +117,13 @@ module _ (line : ℕ → Logged) where
   -- no operation ended before the last begin so far
   timely_over : (b : ℕ) (l : List ℕ) → timely line b l ≡ true → (i : ℕ) → In i l → 1 ≤ (line i).end → b ≤ (line i).end
   unfolding along
+  timely_over b [] h i x3 e = elim x3 [ ]
   timely_over b (j ∷ l) h i (here q) e = rw q at (on_time_lem b (line j) (and_left _ _ h) (rw q e))
   timely_over b (j ∷ l) h i (there k) e = (begin_held b (line j) (line i).end (timely_over (last_begin b (line j)) l (and_right (on_time b (line j)) _ h) i k e)).0
 
   timely_pair : (b : ℕ) (l : List ℕ) → Rising line l → timely line b l ≡ true → (i j : ℕ) → In i l → In j l → rank (line j) < rank (line i) → 1 ≤ (line i).end → (line j).begin ≤ (line i).end
   unfolding along
+  timely_pair b [] _ h i j x7 _ g e = elim x7 [ ]
   timely_pair b (k ∷ l) (next r s) h i j (here p) (here q) g e = absurd (omega (arith, ap (λ (x : ℕ). rank (line x)) p, ap (λ (x : ℕ). rank (line x)) q))
   timely_pair b (k ∷ l) (next r s) h i j (here p) (there n) g e = absurd (omega (arith, ap (λ (x : ℕ). rank (line x)) p, r j n))
   timely_pair b (k ∷ l) (next r s) h i j (there m) (here q) g e =
@@ -132,6 +134,7 @@ module _ (line : ℕ → Logged) where
   -- ---- ranks and places
 
   pub ahead : {l : List ℕ} → Rising line l → {i j : ℕ} → In i l → In j l → rank (line i) < rank (line j) → Before (op i) (op j) (map op l)
+  ahead Rattle.judging.specs.Sorted.empty {i = i} {j = j} x7 _ g = elim x7 [ ]
   ahead (next r s) (here p) (here q) g = absurd (omega (arith, ap (λ (x : ℕ). rank (line x)) p, ap (λ (x : ℕ). rank (line x)) q))
   ahead (next {l = l} r s) (here p) (there n) g = now (ap op p) (map_in op l n)
   ahead (next r s) {i} (there m) (here q) g = absurd (omega (arith, ap (λ (x : ℕ). rank (line x)) q, r i m))

@@ -8,7 +8,7 @@ ghost use Rattle.loads.specs.Load.{load_from};
 
 use loads::draws::start;
 use loads::journal::{STEP, fill};
-use std::io::{Write, writer};
+use std::io::Write;
 use streams::{read_full, write_all};
 
 // A journal is written in pieces of at most so many steps, as many as a buffer holds.
@@ -81,10 +81,10 @@ fn pieces<W: Write>(output: &mut W, state: u32, steps: u32) {
 
 fn main(rt: HostRuntime) {
     let mut b = [0u8; 8];
-    let got = read_full(&mut rt.reader(), &mut b);
+    let got = read_full(&mut rt.stdin(), &mut b);
     if got == 8 {
         let seed = word(b[0], b[1], b[2], b[3]);
         let steps = word(b[4], b[5], b[6], b[7]);
-        pieces(&mut writer(&rt), start(seed), steps);
+        pieces(&mut rt.stdout(), start(seed), steps);
     }
 }

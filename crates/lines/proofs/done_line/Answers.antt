@@ -5,7 +5,7 @@ use Rattle.lines.specs.Lines.{done_line, length_number, begun, grown}
 use Rattle.lines.proofs.done_line.Goals as goal
 
 pub put_number-requires : goal.put_number-requires
-put_number-requires c = omega (arith, length_number c.args.steps 32, c.put_number-a.ensures.0, c.put_number-a.auto.0, c.put_bytes.auto.0)
+put_number-requires c = omega (arith, length_number c.args.steps 32, c.put_number-a.ensures.0, c.put_number-a.auto.out, c.put_bytes.auto.image)
 
 pub returns : goal.returns
 unfolding done_line

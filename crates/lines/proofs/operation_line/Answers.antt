@@ -8,19 +8,19 @@ use Rattle.lines.specs.Lines.{letter_of, operation_line, length_number, begun, g
 use Rattle.lines.proofs.operation_line.Goals as goal
 
 pub put_bytes-requires : goal.put_bytes-requires
-put_bytes-requires c = omega (arith, length_number c.args.number 32, c.put_number-a.ensures.0, c.put_number-a.auto.0)
+put_bytes-requires c = omega (arith, length_number c.args.number 32, c.put_number-a.ensures.0, c.put_number-a.auto.out)
 
 pub overflow_add-a : goal.overflow_add-a
-overflow_add-a c = record { fits = omega (arith, length_number c.args.number 32, c.put_number-a.ensures.0, c.put_number-a.auto.0) }
+overflow_add-a c = record { fits = omega (arith, length_number c.args.number 32, c.put_number-a.ensures.0, c.put_number-a.auto.out) }
 
 pub put_number-b-requires : goal.put_number-b-requires
-put_number-b-requires c = omega (arith, length_number c.args.number 32, c.put_number-a.ensures.0, c.put_number-a.auto.0, c.put_bytes.auto.0)
+put_number-b-requires c = omega (arith, length_number c.args.number 32, c.put_number-a.ensures.0, c.put_number-a.auto.out, c.put_bytes.auto.image)
 
 pub put_number-d-requires : goal.put_number-d-requires
-put_number-d-requires c = omega (arith, length_number c.args.number 32, c.put_number-a.ensures.0, c.put_number-a.auto.0, c.put_bytes.auto.0, length_number (count_of c.args.c.entry) 32, c.put_number-b.ensures.0, c.put_number-b.auto.0)
+put_number-d-requires c = omega (arith, length_number c.args.number 32, c.put_number-a.ensures.0, c.put_number-a.auto.out, c.put_bytes.auto.image, length_number (count_of c.args.c.entry) 32, c.put_number-b.ensures.0, c.put_number-b.auto.out)
 
 pub put_number-requires : goal.put_number-requires
-put_number-requires c = omega (arith, length_number c.args.number 32, c.put_number-a.ensures.0, c.put_number-a.auto.0, c.put_bytes.auto.0, length_number (count_of c.args.c.entry) 32, c.put_number-b.ensures.0, c.put_number-b.auto.0, length_number (writer_of c.args.c.entry) 32, c.put_number-d.ensures.0, c.put_number-d.auto.0)
+put_number-requires c = omega (arith, length_number c.args.number 32, c.put_number-a.ensures.0, c.put_number-a.auto.out, c.put_bytes.auto.image, length_number (count_of c.args.c.entry) 32, c.put_number-b.ensures.0, c.put_number-b.auto.out, length_number (writer_of c.args.c.entry) 32, c.put_number-d.ensures.0, c.put_number-d.auto.out)
 
 pub returns : goal.returns
 unfolding operation_line

@@ -1,0 +1,6 @@
+use borrow.Author.Rules.{rules}
+use Rattle.judging.specs.Answers.{keeps_promise}
+use Rattle.judging.proofs.judge.judge.Goals as goal
+
+pub returns-clause-promise : goal.returns-clause-promise
+returns-clause-promise c = search (keeps_promise, rules) depth 7 fits 4000
