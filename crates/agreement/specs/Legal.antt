@@ -88,6 +88,7 @@ module _ {A : Type 0} (key : A → Key) (op : A → Operation) where
 -- ---- two reads with no write between them
 
 first_read : (e : Option Entry) (l : List Operation) (y : Operation) → Reads e l → In y l → y.kind ≡ READS → ((z : Operation) → z.kind ≡ WRITES → Before z y l → ⊥) → y.entry ≡ e
+first_read e [] y _ x5 h n = elim x5 [ ]
 first_read e (x ∷ l) y (write k r) (here q) h n = absurd (omega (arith, ap (λ (o : Operation). o.kind) q))
 first_read e (x ∷ l) y (write k r) (there i) h n = absurd (n x k (now refl i))
 first_read e (x ∷ l) y (read k f r) (here q) h n = ap (λ (o : Operation). o.entry) (sym q) ∙ f
@@ -95,6 +96,7 @@ first_read e (x ∷ l) y (read k f r) (there i) h n = first_read e l y r i h (λ
 
 pub equal_reads : (e : Option Entry) (l : List Operation) (x y : Operation) → Reads e l → x.kind ≡ READS → y.kind ≡ READS → Before x y l
     → ((z : Operation) → z.kind ≡ WRITES → Before x z l → Before z y l → ⊥) → x.entry ≡ y.entry
+equal_reads e [] x y _ hx hy x8 n = elim x8 [ ]
 equal_reads e (w ∷ l) x y (write k r) hx hy (now q i) n = absurd (omega (arith, ap (λ (o : Operation). o.kind) q))
 equal_reads e (w ∷ l) x y (write k r) hx hy (later b) n = equal_reads w.entry l x y r hx hy b (λ z t f g. n z t (later f) (later g))
 equal_reads e (w ∷ l) x y (read k f r) hx hy (now q i) n =

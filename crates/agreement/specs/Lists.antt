@@ -17,6 +17,7 @@ module _ {A : Type 0} where
       go (inr j) = inr j
 
   pub in_left : (a b : List A) {x : A} → In x a → In x (a ++ b)
+  in_left [] b x3 = elim x3 [ ]
   in_left (y ∷ a) b (here e) = here e
   in_left (y ∷ a) b (there i) = there (in_left a b i)
 
@@ -36,6 +37,7 @@ in_map f (x ∷ l) (here e) = record { of = x; member = here refl; is = e }
 in_map f (x ∷ l) (there i) = let r = in_map f l i in record { of = r.of; member = there r.member; is = r.is }
 
 pub map_in : {A B : Type 0} (f : A → B) (l : List A) {x : A} → In x l → In (f x) (map f l)
+map_in {A = A} {B = B} f [] x3 = elim x3 [ ]
 map_in f (y ∷ l) (here e) = here (ap f e)
 map_in f (y ∷ l) (there i) = there (map_in f l i)
 
@@ -60,6 +62,7 @@ module _ {A : Type 0} where
     equal : x ≡ y → Related R x y
 
   pub related : {R : A → A → Type 0} {l : List A} {x y : A} → Rising R l → In x l → In y l → Related R x y
+  related {R = R} {y = y} empty x8 _ = elim x8 [ ]
   related (next h s) (here e) (here f) = equal (sym e ∙ f)
   related (next h s) (here e) (there j) = before (rw e at (h _ j))
   related (next h s) (there i) (here f) = after (rw f at (h _ i))

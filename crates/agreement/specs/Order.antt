@@ -42,7 +42,7 @@ any_passes p (x ∷ l) e = go (or_cases (p x) (any p l) e) (any_passes p l)
     go (inl h) f = record { of = x; member = here refl; has = h }
     go (inr h) f = let r = f h in record { of = r.of; member = there r.member; has = r.has }
 
-passes_any : (p : Tracked → Bool) {l : List Tracked} {x : Tracked} → In x l → p x ≡ true → any p l ≡ true
+passes_any : (p : Tracked → Bool) {x : Tracked} {l : List Tracked} → In x l → p x ≡ true → any p l ≡ true
 unfolding any
 passes_any p (here {y} e) h = or_first (p y) _ (ap p e ∙ h)
 passes_any p (there {y} i) h = or_second (p y) _ (passes_any p i h)
