@@ -17,8 +17,8 @@ use Rattle.image.specs.Fresh.{fresh_on}
 use Rattle.image.specs.Premise.{premise_on}
 use Rattle.image.specs.Steps.{replay_on}
 use Rattle.image.specs.Worlds.{Spells, spells_decode, spells_readable}
-use Rattle.agreement.specs.Stamps.{never_again as once_given}
-use Rattle.agreement.specs.Theorem.{linearizable}
+use Rattle.agreement.proofs.Stamps.{never_again as once_given}
+use Rattle.agreement.proofs.Theorem.{linearizable}
 use Rattle.consistency.specs.Runs.{run_from, history}
 use Rattle.consistency.specs.Worlds.{run_from_same, history_same}
 use Rattle.consistency.specs.Kept.{began, fresh_readable}

@@ -5,9 +5,10 @@ use Rattle.std.proofs.Math.Option.{Option, some}
 use Rattle.protocol.specs.declared.Entry.{Entry}
 use Rattle.protocol.specs.Clients.{WRITES, READS}
 use Rattle.protocol.specs.Consistent.{Operation, In, here, there, Before, now, later, Reads, end, write, read}
-use Rattle.protocol.proofs.Laws.Entries.{◌≼◌, ≼_refl}
+use Rattle.protocol.proofs.Laws.Entries.{≼_refl}
 use Rattle.agreement.specs.Lists.{Rising, next}
-use Rattle.agreement.specs.Precedence.{◌≺◌, Level, ≺_not, Key, Precedes, by_stamp, by_kind, by_read, precedes_≼, precedes_≺}
+use Rattle.agreement.specs.Precedence.{◌≺◌, Level, Key, Precedes, by_stamp, by_kind, by_read}
+use Rattle.agreement.proofs.Precedence.{≺_not, precedes_≼, precedes_≺}
 
 module _ {A : Type 0} (key : A → Key) (op : A → Operation) where
   abbrev Ahead : A → A → Type 0
