@@ -5,9 +5,10 @@ use Rattle.std.proofs.Math.Option.{Option, some}
 use Rattle.protocol.specs.declared.Entry.{Entry}
 use Rattle.protocol.specs.Clients.{WRITES, READS}
 use Rattle.protocol.specs.Consistent.{Operation, In, here, there, Before, now, later, Reads, end, write, read}
-use Rattle.protocol.proofs.Laws.Entries.{◌≼◌, ≼_refl}
+use Rattle.protocol.proofs.Laws.Entries.{≼_refl}
 use Rattle.agreement.specs.Lists.{Rising, next}
-use Rattle.agreement.specs.Precedence.{◌≺◌, Level, ≺_not, Key, Precedes, by_stamp, by_kind, by_read, precedes_≼, precedes_≺}
+use Rattle.agreement.specs.Precedence.{◌≺◌, Level, Key, Precedes, by_stamp, by_kind, by_read}
+use Rattle.agreement.proofs.Precedence.{≺_not, precedes_≼, precedes_≺}
 
 module _ {A : Type 0} (key : A → Key) (op : A → Operation) where
   abbrev Ahead : A → A → Type 0
@@ -88,6 +89,7 @@ module _ {A : Type 0} (key : A → Key) (op : A → Operation) where
 -- ---- two reads with no write between them
 
 first_read : (e : Option Entry) (l : List Operation) (y : Operation) → Reads e l → In y l → y.kind ≡ READS → ((z : Operation) → z.kind ≡ WRITES → Before z y l → ⊥) → y.entry ≡ e
+first_read e [] y _ x5 h n = elim x5 [ ]
 first_read e (x ∷ l) y (write k r) (here q) h n = absurd (omega (arith, ap (λ (o : Operation). o.kind) q))
 first_read e (x ∷ l) y (write k r) (there i) h n = absurd (n x k (now refl i))
 first_read e (x ∷ l) y (read k f r) (here q) h n = ap (λ (o : Operation). o.entry) (sym q) ∙ f
@@ -95,6 +97,7 @@ first_read e (x ∷ l) y (read k f r) (there i) h n = first_read e l y r i h (λ
 
 pub equal_reads : (e : Option Entry) (l : List Operation) (x y : Operation) → Reads e l → x.kind ≡ READS → y.kind ≡ READS → Before x y l
     → ((z : Operation) → z.kind ≡ WRITES → Before x z l → Before z y l → ⊥) → x.entry ≡ y.entry
+equal_reads e [] x y _ hx hy x8 n = elim x8 [ ]
 equal_reads e (w ∷ l) x y (write k r) hx hy (now q i) n = absurd (omega (arith, ap (λ (o : Operation). o.kind) q))
 equal_reads e (w ∷ l) x y (write k r) hx hy (later b) n = equal_reads w.entry l x y r hx hy b (λ z t f g. n z t (later f) (later g))
 equal_reads e (w ∷ l) x y (read k f r) hx hy (now q i) n =

@@ -14,7 +14,7 @@ use Rattle.protocol.specs.Sizes.{views}
 use Rattle.protocol.specs.Entries.{same}
 use Rattle.protocol.specs.Servers.{READ, WRITE, END, ANSWER, is_request}
 use Rattle.protocol.specs.Clients.{WRITES, READS}
-use Rattle.protocol.specs.Worlds.{World, view, message, newest, present}
+use Rattle.protocol.specs.Worlds.{World, message, newest, present}
 use Rattle.protocol.specs.Readable.{is_sent, ending_fits, phase_fits, sender_fits, tag_rule, request_fits, sent_fits}
 use Rattle.protocol.proofs.Laws.Tests.{and_left, and_right, and_both, within_true, is_within}
 use Rattle.protocol.proofs.Laws.Worlds.{content, sent}

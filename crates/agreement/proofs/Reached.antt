@@ -11,8 +11,8 @@ use Rattle.protocol.specs.Tools.{if, holds, bit_of, Result, refused, done, passe
 use Rattle.protocol.specs.Sizes.{messages, sized, view_with}
 use Rattle.protocol.specs.Entries.{empty}
 use Rattle.protocol.specs.Clients.{WRITES, READS, is_idle}
-use Rattle.protocol.specs.Worlds.{World, no_message, view, server, client, member, fresh_world, fresh}
-use Rattle.protocol.specs.Steps.{After, step}
+use Rattle.protocol.specs.Worlds.{World, no_message, server, member, fresh_world, fresh}
+use Rattle.protocol.specs.Steps.{After}
 use Rattle.protocol.specs.Consistent.{In, here, there}
 use Rattle.protocol.specs.Runs.{step_of, step_bytes, Tracked, started, Run, noted, run, run_from}
 use Rattle.protocol.proofs.Laws.Tests.{clash, or_cases}
@@ -21,10 +21,12 @@ use Rattle.protocol.proofs.Laws.Bits.{holds_bit_of, holds_none}
 use Rattle.protocol.proofs.Laws.Worlds.{content, sent}
 use Rattle.protocol.proofs.Laws.Sound.{Mail, Sized, Sound, nowhere}
 use Rattle.protocol.proofs.Laws.Turns.{starter, step_lawful, step_starter}
-use Rattle.agreement.specs.Lists.{no_member, empty as nobody, next}
-use Rattle.agreement.specs.Invariants.{Keyed, Based, early, Origin, blank, Inv, inv_on}
+use Rattle.agreement.specs.Lists.{empty as nobody, next}
+use Rattle.agreement.proofs.Lists.{no_member}
+use Rattle.agreement.specs.Invariants.{Keyed, Based, early, Origin, blank, Inv}
+use Rattle.agreement.proofs.Invariants.{inv_on}
 use Rattle.agreement.specs.Operations.{Story}
-use Rattle.agreement.specs.Story.{Fresh, Newly, story_on}
+use Rattle.agreement.proofs.Story.{Fresh, Newly, story_on}
 
 -- ---- a fresh world
 

@@ -11,8 +11,8 @@ use Rattle.readable.specs.Readable.{readable}
 use Rattle.image.specs.Fresh.{outcome, fresh_on}
 use Rattle.image.specs.Steps.{step_on, left_by}
 use Rattle.image.specs.Worlds.{Spells, spells_readable, exactly_one}
-use Rattle.preservation.specs.Begun.{fresh_kept}
-use Rattle.consistency.specs.Worlds.{left_spelled}
+use Rattle.preservation.proofs.Begun.{fresh_kept}
+use Rattle.consistency.proofs.Worlds.{left_spelled}
 
 -- what a fresh image that is not refused spells
 pub record Fresh (members f r : ℕ) (i : List ℕ) : Type 0 where

@@ -1,5 +1,5 @@
 -- One record of a readable world replaced, or a message sent or taken: the world stays readable. Assumes nothing.
-use Prim.Native.Nat.{ℕ, zero, ◌+◌, ◌^◌, ◌≤◌, ◌<◌}
+use Prim.Native.Nat.{ℕ, ◌+◌, ◌^◌, ◌≤◌, ◌<◌}
 use Rattle.std.proofs.Math.Nat.{le_refl}
 use Rattle.std.proofs.Math.Decide.{ℕ_discrete, dec_le}
 use native.Mathlib.Omega.{arith}
@@ -34,10 +34,13 @@ use Rattle.protocol.proofs.Laws.Tests.{and_left, and_right, and_both, by_bool, c
 use Rattle.protocol.proofs.Laws.Worlds.{content, sent, length_replace, message_new, sent_send, sent_link, server_same, server_other, client_same, client_other, view_same, view_other, count_as}
 use Rattle.protocol.proofs.Laws.Sound.{link_count, link_used, not_answer}
 use Rattle.protocol.proofs.Laws.Formed.{Formed}
-use Rattle.preservation.specs.Formed.{and_first, and_then, Onward, ending_on, phase_on, sent_on, fits_on}
-use Rattle.preservation.specs.Chained.{Chained, chained, chain_fits_lem, all_map, follow_same}
-use Rattle.preservation.specs.Links.{Untaken, Is, taken_is, is_taken_lem, Short, chained_of, link_taken_other, v_taken, v_kind, v_other, link_chained}
-use Rattle.preservation.specs.Emptied.{Rooted, emptied_used, emptied_sent, among, emptied_in, emptied_out, among_is, before, beyond, emptied_kind, emptied_chained}
+use Rattle.preservation.proofs.Formed.{and_first, and_then, Onward, ending_on, phase_on, sent_on, fits_on}
+use Rattle.preservation.specs.Chained.{Chained}
+use Rattle.preservation.proofs.Chained.{chained, chain_fits_lem, all_map, follow_same}
+use Rattle.preservation.specs.Links.{Untaken, Is, Short}
+use Rattle.preservation.proofs.Links.{taken_is, is_taken_lem, chained_of, link_taken_other, v_taken, v_kind, v_other, link_chained}
+use Rattle.preservation.specs.Emptied.{Rooted}
+use Rattle.preservation.proofs.Emptied.{emptied_used, emptied_sent, among, emptied_in, emptied_out, among_is, before, beyond, emptied_kind, emptied_chained}
 
 -- ---- what the clauses say of one record
 

@@ -1,7 +1,6 @@
 -- Every step keeps what is known of the operations of a run. Assumes nothing.
 use Rattle.std.specs.Prelude.{ℕ, suc, ◌+◌, ◌≤◌, ◌<◌, Bool, true, false, not, ◌≡◌, ◌⊎◌, List, ◌++◌, map}
 use Rattle.std.proofs.Common.{le_refl, arith, sym, ap, subst, ◌∙◌, inl, inr}
-use Rattle.std.proofs.Math.Decide.{ℕ_discrete}
 use Rattle.std.proofs.Math.Path.{refl}
 use borrow.Author.Tests.{eq-eqb, ne_eqb}
 use Rattle.protocol.specs.declared.StampCount.{StampCount}
@@ -20,10 +19,13 @@ use Rattle.protocol.specs.Runs.{Tracked, sent_write, tracked}
 use Rattle.protocol.proofs.Laws.Tests.{by_test, clash, last_or}
 use Rattle.protocol.proofs.Laws.Worlds.{sent}
 use Rattle.protocol.proofs.Laws.Change.{Acted, same, began, wrote, ended, exchanged, gave_up, Writer, Posted, none, one, Change, Moved}
-use Rattle.agreement.specs.Lists.{in_map, map_in, in_append, in_left, in_right, Rising, rising_append, rising_map}
-use Rattle.agreement.specs.Invariants.{Inv, grown}
+use Rattle.agreement.specs.Lists.{Rising}
+use Rattle.agreement.proofs.Lists.{in_map, map_in, in_append, in_left, in_right, rising_append, rising_map}
+use Rattle.agreement.specs.Invariants.{Inv}
+use Rattle.agreement.proofs.Invariants.{grown}
 use Rattle.agreement.specs.Carried.{Held}
-use Rattle.agreement.specs.Operations.{Wrote, Open, reading, writing, Own, Fits, Earlier, Some, Story, given_by_grows, held_on, wrote_on, wrote_new, given_new, held_new, exchanged_on, exchanged_new, held_once}
+use Rattle.agreement.specs.Operations.{Wrote, Open, reading, writing, Own, Fits, Earlier, Some, Story}
+use Rattle.agreement.proofs.Operations.{given_by_grows, held_on, wrote_on, wrote_new, given_new, held_new, exchanged_on, exchanged_new, held_once}
 
 -- ---- an operation after a step
 

@@ -7,7 +7,8 @@ use mathlib.Core.List.{List, [], ◌∷◌}
 use Rattle.protocol.specs.Tools.{if}
 use Rattle.protocol.specs.Consistent.{In, here, there}
 use Rattle.protocol.proofs.Laws.Tests.{clash}
-use Rattle.agreement.specs.Lists.{Rising, empty, next, no_member}
+use Rattle.agreement.specs.Lists.{Rising, empty, next}
+use Rattle.agreement.proofs.Lists.{no_member}
 
 -- the members of a list that pass a test
 unfoldable pub filter : {A : Type 0} → (A → Bool) → List A → List A
@@ -27,6 +28,7 @@ module _ {A : Type 0} (p : A → Bool) where
 
   pub filter_in : (l : List A) {x : A} → In x l → p x ≡ true → In x (filter p l)
   unfolding filter
+  filter_in [] {x = x} i h = elim i [ ]
   filter_in (y ∷ l) {x} i h = go (p y) refl i (λ j. filter_in l j h)
     where
       go : (b : Bool) → p y ≡ b → In x (y ∷ l) → (In x l → In x (filter p l)) → In x (if b (y ∷ filter p l) (filter p l))
@@ -99,6 +101,7 @@ module _ {A : Type 0} (R Apart : A → A → Type 0) (cmp : (x y : A) → R x y 
 
   pub sort_in : (l : List A) {z : A} → In z l → In z (sort l)
   unfolding sort
+  sort_in [] {z = z} x' = elim x' [ ]
   sort_in (x ∷ xs) {z} (here e) = insert_in x (sort xs) (here e)
   sort_in (x ∷ xs) {z} (there i) = insert_in x (sort xs) (there (sort_in xs i))
 

@@ -8,10 +8,11 @@ use Rattle.protocol.specs.Worlds.{fresh, premise}
 use Rattle.protocol.proofs.Laws.Worlds.{content, sent}
 use Rattle.protocol.proofs.Sessions.{write, read, deliver_to, take_one, fault_of, false_answer, new_view_lem, given_up_lem, begun, run_of, operations_of, premise_after, stop_of, stops, operated}
 use Rattle.protocol.specs.Runs.{run_from}
-use Rattle.agreement.specs.Sorting.{filter, sort}
-use Rattle.agreement.specs.Precedence.{compared}
-use Rattle.agreement.specs.Order.{stands, order}
-use Rattle.agreement.specs.Theorem.{linearizable}
+use Rattle.agreement.proofs.Sorting.{filter, sort}
+use Rattle.agreement.proofs.Precedence.{compared}
+use Rattle.agreement.specs.Order.{stands}
+use Rattle.agreement.proofs.Order.{order}
+use Rattle.agreement.proofs.Theorem.{linearizable}
 
 -- Servers 1 to 4, f 1; server 1 turns faulty. Client 1 writes 7, which ends on 2, 3 and 4.
 first : List (List ℕ)

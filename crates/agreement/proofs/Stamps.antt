@@ -1,24 +1,25 @@
 -- L3: no stamp is given twice, in any run, whatever is faulty. `unique`: two write operations of a run whose WRITEs have one stamp are one;
 -- it rests on the counts that each client gave (`counts` of `Earlier`) and on no quorum. `never_again`: the same of every run's history.
--- Used by Order.antt and, on images, by consistency/specs/Theorem.antt. Assumes nothing.
-use Rattle.std.specs.Prelude.{ℕ, ◌≤◌, ◌<◌, Bool, true, false, ◌&&◌, ◌≡◌, List, map, ltb, eqb}
+-- Used by Order.antt and, on images, by consistency/proofs/Theorem.antt. Assumes nothing.
+use Rattle.std.specs.Prelude.{ℕ, ◌≤◌, Bool, true, false, ◌≡◌, List, map, ltb}
 use Rattle.std.proofs.Math.Decide.{ℕ_discrete}
-use Rattle.std.proofs.Common.{arith, subst, ◌∙◌}
+use Rattle.std.proofs.Common.{arith, ◌∙◌}
 use Rattle.std.proofs.Math.Path.{refl, sym, ap}
-use Rattle.std.proofs.Math.Option.{Option, none, some}
+use Rattle.std.proofs.Math.Option.{none, some}
 use borrow.Author.Tests.{ltb-true, eq-eqb, ne_eqb, lt-ltb}
 use Rattle.protocol.specs.declared.Entry.{Entry}
-use Rattle.protocol.specs.Tools.{if, done}
+use Rattle.protocol.specs.Tools.{done}
 use Rattle.protocol.specs.Entries.{count_of, writer_of}
 use Rattle.protocol.specs.Clients.{WRITES}
 use Rattle.protocol.specs.Worlds.{World, fresh}
 use Rattle.protocol.specs.Consistent.{Operation, In}
-use Rattle.protocol.specs.Runs.{Tracked, entry_of, operation, Run, run_from, history}
+use Rattle.protocol.specs.Runs.{Tracked, entry_of, operation, run_from, history}
 use Rattle.protocol.proofs.Laws.Worlds.{content, sent}
-use Rattle.agreement.specs.Lists.{in_map, Related, before, after, equal, related}
-use Rattle.agreement.specs.Operations.{shows, shows_sent, Own, Earlier, Story}
+use Rattle.agreement.proofs.Lists.{in_map, Related, before, after, equal, related}
+use Rattle.agreement.specs.Operations.{shows, Own, Earlier, Story}
+use Rattle.agreement.proofs.Operations.{shows_sent}
 use Rattle.agreement.specs.Precedence.{Level}
-use Rattle.agreement.specs.Reached.{Reached, reached}
+use Rattle.agreement.proofs.Reached.{reached}
 
 module _ {w : World} {place : ℕ} {l : List Tracked} (s : Story w place l) where
   pub unique : (a b : Tracked) → In a l → In b l → Own a → Own b → Level (sent w a.write).entry (sent w b.write).entry → a ≡ b

@@ -11,7 +11,7 @@ use Rattle.protocol.specs.Runs as W
 use Rattle.codec.specs.Images.{encode}
 use Rattle.image.specs.Steps.{step_on, left_by}
 use Rattle.image.specs.Worlds.{Spells, spells_decode, step_spelled}
-use Rattle.preservation.specs.Begun.{left_kept}
+use Rattle.preservation.proofs.Begun.{left_kept}
 use Rattle.consistency.specs.Runs.{Run, operations_on, noted, run, run_from, history}
 
 -- what a step leaves of it
