@@ -1,14 +1,7 @@
-pub mod Counting
 pub mod Lists
 pub mod Invariants
 pub mod Carried
 pub mod Operations
-pub mod Story
-pub mod Reached
-pub mod Sorting
 pub mod Precedence
-pub mod Stamps
-pub mod Legal
 pub mod Order
 pub mod Theorem
-pub mod Example

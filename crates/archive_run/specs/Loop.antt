@@ -5,7 +5,7 @@ use Rattle.std.proofs.Common.{arith, sym, ap, subst, ◌∙◌}
 use Rattle.protocol.specs.Tools.{Result, refused, done, passed}
 use Rattle.protocol.specs.Steps.{After}
 use Rattle.protocol.specs.Runs.{step_of}
-use Rattle.preservation.specs.Kept.{step_kept}
+use Rattle.preservation.proofs.Kept.{step_kept}
 use Rattle.codec.specs.Images.{encode, decode}
 use Rattle.readable.specs.Readable.{world_decode}
 use Rattle.image.specs.Steps.{step_on, left_by}

@@ -18,7 +18,7 @@ use Rattle.image.specs.Fresh.{Outcome, outcome, fresh_on}
 use Rattle.image.specs.Steps.{step_on, left_by}
 use Rattle.mail.specs.declared.Stepped.{Stepped}
 use Rattle.mail.specs.declared.Stepped.TheVariants.{StepRefused, StepDone}
-use Rattle.preservation.specs.Begun.{fresh_kept}
+use Rattle.preservation.proofs.Begun.{fresh_kept}
 use Rattle.readable.specs.Readable.{readable, world_readable}
 use Rattle.mail.specs.Images.{stepped, Legible, Does}
 use Rattle.journal.specs.Replays.{spelled}

@@ -1,6 +1,3 @@
 pub mod Runs
-pub mod Worlds
-pub mod Kept
 pub mod Journals
 pub mod Theorem
-pub mod Refusals

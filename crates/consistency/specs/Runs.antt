@@ -1,5 +1,5 @@
 -- Runs of images, and their operations: `run_from` an image by a list of byte strings, each a step, and the `history` that the claim
--- judges. As `run` and `history` of worlds in protocol/specs/Runs.antt; Worlds.antt has the laws. Assumes nothing.
+-- judges. As `run` and `history` of worlds in protocol/specs/Runs.antt; proofs/Worlds.antt has the laws. Assumes nothing.
 use Rattle.std.specs.Prelude.{ℕ, ◌+◌, List, [], ◌∷◌, ◌++◌, map}
 use Rattle.protocol.specs.Tools.{Result, refused, done}
 use Rattle.protocol.specs.Steps.{After}

@@ -1,75 +1,26 @@
--- Demand 3 on the bytes, for runs and for journals: `linearizable_images` and `linearizable_journals`. `never_again`: no run gives a stamp
--- twice, whatever is faulty. `run_reported` says that the
--- premise report on which they rest is an answer and no refusal. What runs, histories and journals are stands in Runs.antt,
--- Journals.antt and image/specs/Steps.antt; what `Consistent` is, in protocol/specs/Consistent.antt. Assumes nothing.
-use Rattle.std.specs.Prelude.{ℕ, Bool, true, ◌≡◌, refl, List}
-use Rattle.std.proofs.Common.{sym, ap, subst, ◌∙◌, eq-eqb}
-use Rattle.std.proofs.Math.Option.{some}
-use Rattle.protocol.specs.Tools.{done, guard, passed}
-use Rattle.protocol.specs.Worlds.{World, premise}
-use Rattle.protocol.specs.declared.Entry.{Entry}
-use Rattle.protocol.specs.Entries.{count_of, writer_of}
-use Rattle.protocol.specs.Clients.{WRITES}
-use Rattle.protocol.specs.Consistent.{Operation, In, Consistent}
-use Rattle.codec.specs.Images.{decode}
-use Rattle.readable.specs.Readable.{read}
+-- Demand 3 on the bytes, for runs and for journals; proofs/Theorem.antt proves both. What runs, histories and journals are stands in
+-- Runs.antt, Journals.antt and image/specs/Steps.antt; what `Consistent` is, in protocol/specs/Consistent.antt. Assumes nothing.
+use Rattle.std.specs.Prelude.{ℕ, true, ◌≡◌, List}
+use Rattle.protocol.specs.Tools.{done}
+use Rattle.protocol.specs.Consistent.{Consistent}
 use Rattle.image.specs.Fresh.{fresh_on}
 use Rattle.image.specs.Premise.{premise_on}
 use Rattle.image.specs.Steps.{replay_on}
-use Rattle.image.specs.Worlds.{Spells, spells_decode, spells_readable}
-use Rattle.agreement.specs.Stamps.{never_again as once_given}
-use Rattle.agreement.specs.Theorem.{linearizable}
 use Rattle.consistency.specs.Runs.{run_from, history}
-use Rattle.consistency.specs.Worlds.{run_from_same, history_same}
-use Rattle.consistency.specs.Kept.{began, fresh_readable}
-use Rattle.consistency.specs.Journals.{steps_done, replay_runs}
-
--- the premise report of an image is the premise of the world that it spells
-report_holds : {i : List ℕ} {w : World} → Spells i w → premise_on i ≡ done true → premise w ≡ true
-unfolding premise_on
-report_holds {i} {w} h e =
-    let (p, e1) = passed _ _ _ _ e in
-    let (q, e2) = passed _ _ _ _ e1 in
-    ap premise (sym (spells_decode h)) ∙ is_done e2
-  where
-    is_done : {x y : Bool} → done x ≡ done y → x ≡ y
-    is_done e = cc
-
--- the premise report of a run's image is no refusal: it says whether the premise holds in its world
-pub run_reported : (buffer : List ℕ) (members f r : ℕ) → (fresh_on buffer members f r).refusal ≡ 0 → (steps : List (List ℕ))
-    → premise_on (run_from (fresh_on buffer members f r).image steps).image ≡ done (premise (decode (run_from (fresh_on buffer members f r).image steps).image))
-unfolding premise_on guard
-run_reported buffer members f r e steps =
-    let b = began buffer members f r e in
-    let s = run_from_same _ b.world steps b.spells in
-    let h = spells_readable s.image in
-    rw (eq-eqb _ _ (read _ h).size, h) refl
+use Rattle.consistency.specs.Journals.{steps_done}
 
 -- For every buffer, member bits, f and r that are not refused, and every list of byte strings of any length, each a step on the
 -- image that the last one left: if the premise report of the last image says that the premise holds, the operations of the run
 -- have one order in which each read returns the last write before it.
-pub linearizable_images : (buffer : List ℕ) (members f r : ℕ) → (fresh_on buffer members f r).refusal ≡ 0 → (steps : List (List ℕ))
+abbrev pub LinearizableImages : Type 0
+LinearizableImages =
+    (buffer : List ℕ) (members f r : ℕ) → (fresh_on buffer members f r).refusal ≡ 0 → (steps : List (List ℕ))
     → premise_on (run_from (fresh_on buffer members f r).image steps).image ≡ done true → Consistent (history (run_from (fresh_on buffer members f r).image steps))
-linearizable_images buffer members f r e steps p =
-    let b = began buffer members f r e in
-    let s = run_from_same _ b.world steps b.spells in
-    subst Consistent (sym (history_same _ _ s)) (linearizable members f r b.world b.from steps (report_holds s.image p))
-
--- "in a run its stamp is never given again": for every fresh image and every list of byte strings, and with no premise, two write
--- operations of the run whose entries have one stamp are one
-pub never_again : (buffer : List ℕ) (members f r : ℕ) → (fresh_on buffer members f r).refusal ≡ 0 → (steps : List (List ℕ)) → (x y : Operation)
-    → In x (history (run_from (fresh_on buffer members f r).image steps)) → In y (history (run_from (fresh_on buffer members f r).image steps))
-    → x.kind ≡ WRITES → y.kind ≡ WRITES → {e g : Entry} → x.entry ≡ some e → y.entry ≡ some g → count_of e ≡ count_of g → writer_of e ≡ writer_of g → x ≡ y
-never_again buffer members f r e steps x y i j p q u v k l =
-    let b = began buffer members f r e in
-    let s = run_from_same _ b.world steps b.spells in
-    once_given members f r b.world b.from steps x y (rw (history_same _ _ s) at i) (rw (history_same _ _ s) at j) p q u v k l
 
 -- For every buffer, member bits, f and r that are not refused, and every journal of any bytes and any length: if the premise report of
 -- the image that its replay on the fresh image leaves says that the premise holds, so have the operations of the steps done.
-pub linearizable_journals : (buffer : List ℕ) (members f r : ℕ) → (fresh_on buffer members f r).refusal ≡ 0 → (journal : List ℕ)
+abbrev pub LinearizableJournals : Type 0
+LinearizableJournals =
+    (buffer : List ℕ) (members f r : ℕ) → (fresh_on buffer members f r).refusal ≡ 0 → (journal : List ℕ)
     → premise_on (replay_on (fresh_on buffer members f r).image journal).image ≡ done true
     → Consistent (history (run_from (fresh_on buffer members f r).image (steps_done (fresh_on buffer members f r).image journal)))
-linearizable_journals buffer members f r e journal p =
-    let i : List ℕ = (fresh_on buffer members f r).image in
-    linearizable_images buffer members f r e (steps_done i journal) (ap premise_on (sym (replay_runs i journal (fresh_readable buffer members f r e))) ∙ p)

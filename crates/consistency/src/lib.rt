@@ -1,2 +1,2 @@
-// Demand 3 on images. The crate has no code: its theorem stands in specs/Theorem.antt.
+// Demand 3 on images. The crate has no code: its theorems stand in specs/Theorem.antt and are proved in proofs/.
 #![tactic(auto)]

@@ -28,8 +28,8 @@ use Rattle.key_holders.specs.Counts.{bit_or_lem}
 use Rattle.codec.specs.Places.{used_at, view_at, server_at, message_at, put_server}
 use Rattle.codec.specs.Images.{encode, decode}
 use Rattle.server_rules.specs.Servers.{serve_in, serve_in_lem, entering, replying, accepting, refused_by, serve_done}
-use Rattle.preservation.specs.Updates.{present_is}
-use Rattle.preservation.specs.Kept.{mailed}
+use Rattle.preservation.proofs.Updates.{present_is}
+use Rattle.preservation.proofs.Kept.{mailed}
 use Rattle.mail.specs.declared.Stepped.TheVariants.{StepRefused, StepDone}
 use Rattle.mail.specs.Images.{Legible, Does, put_sent}
 use Rattle.mail.specs.Stored.{refuses, does, whole, used_is, view_is, server_is, message_is, image_of, with_sent, room_yes, room_no}

@@ -15,7 +15,7 @@ use Rattle.protocol.specs.Runs.{step_width, step_of, step_bytes, Replayed, onwar
 use Rattle.codec.specs.Layout.{image_size}
 use Rattle.codec.specs.Images.{encode, decode}
 use Rattle.readable.specs.Readable.{readable, Read, read, world_decode, world_readable}
-use Rattle.preservation.specs.Kept.{step_kept}
+use Rattle.preservation.proofs.Kept.{step_kept}
 use Rattle.image.specs.Steps.{left_by, answered, steps_in, steps_of, Played, played, replay_on, resume_on}
 use Rattle.journal.specs.declared.Replayed.{Replayed as Answer}
 use Rattle.mail.specs.declared.Stepped.{Stepped}

@@ -11,7 +11,7 @@ use Rattle.protocol.specs.Runs.{step_width, step_bytes, left, Replayed, onward, 
 use Rattle.codec.specs.Layout.{image_size}
 use Rattle.codec.specs.Images.{encode, decode}
 use Rattle.readable.specs.Readable.{readable, Read, read, world_decode, world_readable}
-use Rattle.preservation.specs.Begun.{left_kept}
+use Rattle.preservation.proofs.Begun.{left_kept}
 use Rattle.image.specs.Steps.{steps_in, steps_of, played, unplayed, replay_on, resume_on}
 use Rattle.journal.specs.Replays.{beyond, rest_stops, whole_replay, rest_some}
 

@@ -12,7 +12,7 @@ use Rattle.codec.specs.Layout.{image_size}
 use Rattle.codec.specs.Images.{decode}
 use Rattle.readable.specs.Readable.{readable, read_back, world_decode}
 use Rattle.image.specs.Steps.{left_by, answered, steps_of, played}
-use Rattle.preservation.specs.Kept.{step_kept}
+use Rattle.preservation.proofs.Kept.{step_kept}
 use Rattle.mail.specs.declared.Stepped.{Stepped}
 use Rattle.mail.specs.declared.Stepped.TheVariants.{StepRefused, StepDone}
 use Rattle.mail.specs.Images.{Legible, Does, stepped}

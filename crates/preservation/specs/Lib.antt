@@ -1,9 +1,6 @@
-pub mod Formed
 pub mod Chained
 pub mod Links
 pub mod Emptied
-pub mod Updates
-pub mod Outcomes
 pub mod Kept
 pub mod Unclosed
 pub mod Again

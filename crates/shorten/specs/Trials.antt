@@ -14,7 +14,7 @@ use Rattle.protocol.specs.Tools.{if}
 use Rattle.protocol.specs.Worlds.{World, fresh_world}
 use Rattle.protocol.specs.Readable.{well_formed}
 use Rattle.protocol.specs.Runs.{step_width, Replayed, replay}
-use Rattle.preservation.specs.Begun.{fresh_kept}
+use Rattle.preservation.proofs.Begun.{fresh_kept}
 use Rattle.codec.specs.Layout.{image_size}
 use Rattle.codec.specs.Images.{encode, decode}
 use Rattle.readable.specs.Readable.{world_decode}

@@ -36,9 +36,10 @@ use Rattle.protocol.proofs.Laws.Tests.{and_left, and_right, within_true}
 use Rattle.protocol.proofs.Laws.Sound.{link_used}
 use Rattle.protocol.proofs.Laws.Formed.{Formed}
 use Rattle.protocol.proofs.Laws.Tests.{is_within}
-use Rattle.preservation.specs.Chained.{chained, all_map}
-use Rattle.preservation.specs.Links.{Untaken, taken_is}
-use Rattle.preservation.specs.Updates.{mail_sent, request_of_lem, present_is}
+use Rattle.preservation.proofs.Chained.{chained, all_map}
+use Rattle.preservation.specs.Links.{Untaken}
+use Rattle.preservation.proofs.Links.{taken_is}
+use Rattle.preservation.proofs.Updates.{mail_sent, request_of_lem, present_is}
 use Rattle.codec.specs.Places.{put_administrator, used_at, view_at, client_at, put_client, message_at, put_message}
 use Rattle.codec.specs.Images.{encode, decode}
 use Rattle.codec.specs.Laws.{Full, decode_full, full_message}

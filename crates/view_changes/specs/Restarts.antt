@@ -17,10 +17,11 @@ use Rattle.protocol.specs.Readable.{taken_answer}
 use Rattle.protocol.proofs.Laws.Tests.{is_within}
 use Rattle.protocol.proofs.Laws.Worlds.{content, sent, count_as}
 use Rattle.protocol.proofs.Laws.Moves.{is_done}
-use Rattle.preservation.specs.Chained.{all_map}
-use Rattle.preservation.specs.Links.{taken_is}
-use Rattle.preservation.specs.Emptied.{as_none, as_more, Rooted}
-use Rattle.preservation.specs.Kept.{ended, end_sent}
+use Rattle.preservation.proofs.Chained.{all_map}
+use Rattle.preservation.proofs.Links.{taken_is}
+use Rattle.preservation.specs.Emptied.{Rooted}
+use Rattle.preservation.proofs.Emptied.{as_none, as_more}
+use Rattle.preservation.proofs.Kept.{ended, end_sent}
 use Rattle.codec.specs.Places.{administrator_at, put_administrator, put_view, message_at, put_message}
 use Rattle.codec.specs.Images.{encode, decode}
 use Rattle.codec.specs.Laws.{Full}

@@ -1,7 +1,7 @@
 -- By which numbers each rule and each step refuses. `Refuses ns x`: every refusal of x is one of the numbers ns; `step_refuses`: those
 -- of a step are among `refusals`, 1 to `last_refusal`. Other laws: `refuses_guard`, `refuses_if` and `refuses_then` lead through a
 -- definition, `refuses_more` to a longer list; `among_ranged` gives the least and the largest number, and `zero_done` that 0 means
--- done. Used by consistency/specs/Refusals.antt. Assumes nothing.
+-- done. Used by consistency/proofs/Refusals.antt. Assumes nothing.
 use Rattle.std.specs.Prelude.{ℕ, ◌≤◌, Bool, true, false, ◌&&◌, ◌||◌, ◌⊎◌, ◌≡◌, refl, List, [], ◌∷◌, length, eqb}
 use Rattle.std.proofs.Common.{arith, true≢false, inl, inr, sym, ap, ◌∙◌, eqb-true}
 use Rattle.std.proofs.Math.Option.{Option, none, some}

@@ -1,0 +1,5 @@
+pub mod Worlds
+pub mod Kept
+pub mod Journals
+pub mod Theorem
+pub mod Refusals

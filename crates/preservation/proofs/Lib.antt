@@ -1,0 +1,13 @@
+pub mod Formed
+pub mod Chained
+pub mod Links
+pub mod Emptied
+pub mod Updates
+pub mod Outcomes
+pub mod Kept
+pub mod Unclosed
+pub mod Again
+pub mod Begun
+pub mod Cut
+pub mod Open
+pub mod Completed

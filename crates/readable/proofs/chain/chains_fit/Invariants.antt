@@ -1,0 +1,26 @@
+use mathlib.Core.Path.{◌≡◌, sym, ap, ◌∙◌}
+use mathlib.Core.Bool.{true}
+use mathlib.Core.Logic.{⊎_elim}
+use Prim.Native.Nat.{◌+◌, ◌*◌, ◌-◌, ◌≤◌}
+use native.Mathlib.Omega.{arith}
+use borrow.Author.Rules.{rules}
+use Rattle.protocol.specs.Sizes.{messages}
+use Rattle.protocol.specs.Tools.{pass, sum_to, count_to, all_to}
+use Rattle.codec.specs.Images.{decode}
+use Rattle.readable.specs.Scan.{open_used, chains_rule}
+use Rattle.protocol.proofs.Laws.Tests.{count_le}
+use Rattle.protocol.proofs.Laws.Loops.{all_start, all_more, all_fails, count_start, count_more, sum_start, sum_more}
+use Rattle.readable.specs.Walks.{followed, chained_links, whole, broken, no_chain, links_most}
+use Rattle.readable.specs.Chains.{chain_sound, links, is_taken}
+use Rattle.readable.proofs.chain.chains_fit.Given as goal
+
+abbrev pub invariant-loop-k : goal.invariant-loop-k
+invariant-loop-k l =
+    (l.k ≤ l.used)
+    × (all_to (chain_sound (decode l.image)) l.k ≡ true)
+    × (l.sum ≡ sum_to (links (decode l.image)) l.k)
+    × (l.taken ≡ count_to (is_taken (decode l.image)) l.k)
+    × (l.sum ≤ messages * l.k)
+
+abbrev pub decreases-loop-k : goal.decreases-loop-k
+decreases-loop-k l = l.used - l.k
