@@ -19,16 +19,10 @@ use Rattle.protocol.specs.Readable.{is_asked}
 use Rattle.protocol.proofs.Laws.Formed.{Formed}
 use Rattle.protocol.proofs.Laws.Tests.{and_left}
 use Rattle.protocol.proofs.Laws.Worlds.{content, sent, sent_link, message_new}
-<<<<<<< ours
 use Rattle.preservation.proofs.Chained.{chained}
 use Rattle.preservation.specs.Links.{Untaken}
 use Rattle.preservation.proofs.Links.{chain_head}
 use Rattle.preservation.proofs.Kept.{untaken}
-=======
-use Rattle.preservation.specs.Chained.{chained}
-use Rattle.preservation.specs.Links.{chain_head}
-use Rattle.preservation.specs.Kept.{untaken}
->>>>>>> theirs
 use Rattle.values.specs.Tallies.{first_answer}
 use Rattle.codec.specs.Layout.{entry_width}
 use Rattle.codec.specs.Lists.{flat}
