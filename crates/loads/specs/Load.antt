@@ -2,7 +2,7 @@
 -- load goes on where it was left: `state_split`, `journal_split`, and as the program writes it, `split_none`, `split_more`. The loop of the code: `fill_none`, `fill_more`, `fill_all`; the ways out
 -- of the operation: `load_refused`, `load_done`. Assumes nothing.
 use Rattle.std.specs.Prelude.{ℕ, zero, suc, ◌+◌, ◌-◌, ◌*◌, ◌/◌, ◌%◌, ◌≤◌, ◌≡◌, refl, List, [], ◌∷◌, ◌++◌, length, take, drop, eqb}
-use Rattle.std.proofs.Common.{add-zero, add-suc, add-one, arith, sym, ap, ◌∙◌, append_assoc, append-nil, length-append, length-take, length-drop, eq-eqb, ne_eqb, take_at, drop_at, drop-drop, length-take-le}
+use Rattle.std.proofs.Common.{le_of_eq, take_all, add-zero, add-suc, add-one, arith, sym, ap, ◌∙◌, append_assoc, append-nil, length-append, length-take, length-drop, eq-eqb, ne_eqb, take_at, drop_at, drop-drop, length-take-le}
 use Rattle.std.proofs.Math.Seq.{drop-length}
 use Rattle.protocol.specs.declared.Step.{Step}
 use Rattle.protocol.specs.Tools.{if}
@@ -81,10 +81,24 @@ unfolding put_step
 length_put l at st h = simp (length-append, length-take, length-drop, length_spelled) (omega arith)
 
 -- a copy of a step's bytes into its part of the journal
-pub copied : (l bs x : List ℕ) (at : ℕ) (st : Step) → bs ≡ spelled st → x ≡ bs
+pub copied : (l bs x : List ℕ) (at : ℕ) (st : Step) → at + step_width ≤ length l → bs ≡ spelled st
+    → x ≡ take (length bs) bs ++ drop (length bs) (take (at + step_width - at) (drop at l))
     → take at l ++ (x ++ drop (at + step_width - at) (drop at l)) ≡ put_step l at st
 unfolding put_step
-copied l bs x at st p q =
+copied l bs x at st h p q =
+    let d : List ℕ = drop at l in
+    let k : at + step_width - at ≡ step_width = omega arith in
+    let n : length (take step_width d) ≡ step_width = simp (length-take, length-drop) (omega arith) in
+    rw (q, p, k, length_spelled st)
+    (ap (λ (v : List ℕ). take at l ++ ((v ++ drop step_width (take step_width d)) ++ drop step_width d)) (take_all step_width (spelled st) (le_of_eq (length_spelled st)))
+    ∙ ap (λ (v : List ℕ). take at l ++ ((spelled st ++ v) ++ drop step_width d)) (drop_all (take step_width d) step_width n)
+    ∙ ap (λ (v : List ℕ). take at l ++ (v ++ drop step_width d)) (append-nil (spelled st)))
+
+-- the same, where the part is the step's bytes
+pub filled : (l bs x : List ℕ) (at : ℕ) (st : Step) → bs ≡ spelled st → x ≡ bs
+    → take at l ++ (x ++ drop (at + step_width - at) (drop at l)) ≡ put_step l at st
+unfolding put_step
+filled l bs x at st p q =
     let k : at + step_width - at ≡ step_width = omega arith in
     rw (q, p, k)
 

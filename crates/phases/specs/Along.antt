@@ -1,23 +1,23 @@
 -- The record of a phase along the steps of a world: a request that was just sent has no answer taken, so opening gives its record,
 -- `open_sent`; and an answer that leaves its phase open takes the record of the world before the step to that of the world after it,
 -- `answer_along`. No code rests on it.
-use Rattle.std.specs.Prelude.{ℕ, zero, suc, ◌+◌, ◌≤◌, ◌<◌, Bool, true, false, not, ◌&&◌, ◌≡◌, length, ltb, eqb}
-use Rattle.std.proofs.Common.{arith, sym, ◌∙◌}
-use Rattle.std.proofs.Math.Option.{Option, none, some}
+use Rattle.std.specs.Prelude.{ℕ, zero, suc, ◌+◌, ◌<◌, true, not, ◌&&◌, ◌≡◌, length, eqb}
+use Rattle.std.proofs.Common.{sym, ◌∙◌}
+use Rattle.std.proofs.Math.Option.{none}
 use Rattle.std.proofs.Math.Path.{refl, ap, ap₂}
 use mathlib.Core.List.{List, [], ◌∷◌, ◌++◌}
 use Rattle.std.proofs.lemmas.Bool.{not-true}
 use Rattle.values.specs.declared.tally.Tally.{Tally}
 use Rattle.protocol.specs.declared.Message.{Message}
-use Rattle.protocol.specs.Tools.{if, Result, done}
-use Rattle.protocol.specs.Sizes.{views, messages}
+use Rattle.protocol.specs.Tools.{if, done}
+use Rattle.protocol.specs.Sizes.{views}
 use Rattle.protocol.specs.Servers.{ANSWER}
-use Rattle.protocol.specs.Worlds.{World, message, present, room, send, list_to}
+use Rattle.protocol.specs.Worlds.{World, message, present, send, list_to}
 use Rattle.protocol.specs.Chains.{follow, chain}
 use Rattle.protocol.specs.Steps.{moved, link, open?, taken_with, take}
 use Rattle.protocol.specs.Readable.{is_asked}
 use Rattle.protocol.proofs.Laws.Formed.{Formed}
-use Rattle.protocol.proofs.Laws.Tests.{and_left, and_right}
+use Rattle.protocol.proofs.Laws.Tests.{and_left}
 use Rattle.protocol.proofs.Laws.Worlds.{content, sent, sent_link, message_new}
 use Rattle.preservation.proofs.Chained.{chained}
 use Rattle.preservation.specs.Links.{Untaken}
@@ -30,9 +30,9 @@ use Rattle.phases.specs.declared.records.Head.{Head}
 use Rattle.phases.specs.Layout.{phase_width}
 use Rattle.phases.specs.Records.{head, head_bytes, tally_bytes}
 use Rattle.phases.specs.Rules.{count_answer}
-use Rattle.phases.specs.Calls.{open_on, RecordTold, answer_on}
+use Rattle.phases.specs.Calls.{open_on, answer_on}
 use Rattle.phases.specs.Lists.{tally_in}
-use Rattle.phases.specs.Same.{head_in, phase_bytes, record_of, verdict_of, asked_of, told_of, open_record, ByRecord, take_by_record}
+use Rattle.phases.specs.Same.{head_in, phase_bytes, record_of, verdict_of, asked_of, open_record, take_by_record}
 
 -- ---- the record asks only for what was sent
 

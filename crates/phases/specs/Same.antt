@@ -2,7 +2,7 @@
 -- to a request goes by one more to the record of those and the one, it is closed where the step closes or is refused with 10 or 11,
 -- and with the same entry and the same leave to end a read. `record_of` is that record, `verdict_of` what it says. It begins as what opening writes, `open_record`.
 -- No code rests on it.
-use Prim.Native.Nat.{ℕ, ◌+◌, ◌*◌, ◌-◌, ◌≤◌, ◌<◌, ◌^◌}
+use Prim.Native.Nat.{ℕ, ◌+◌, ◌*◌, ◌≤◌, ◌<◌, ◌^◌}
 use Rattle.std.proofs.Math.Decide.{ℕ_discrete}
 use Rattle.std.proofs.Common.{arith, ap₂, ◌∙◌, length-append}
 use Rattle.std.specs.Prelude.{Bool, not, ◌&&◌, ◌≡◌, length, leb, ltb}

@@ -1,0 +1,6 @@
+use Rattle.phases.specs.Records.{put_tally}
+use Rattle.phases.proofs.records.store_tally.Goals as goal
+
+pub returns : goal.returns
+unfolding put_tally
+returns c = c.write_tally.ensures
