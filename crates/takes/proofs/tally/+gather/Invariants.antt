@@ -1,0 +1,4 @@
+use Rattle.takes.proofs.tally.+gather.Given as goal
+
+abbrev pub decreases-gather : goal.decreases-gather
+decreases-gather l = l.left

@@ -1,0 +1,7 @@
+use Rattle.takes.specs.Gathered.{opens}
+use Rattle.takes.proofs.tally.opened.Goals as goal
+
+pub returns : goal.returns
+returns c =
+    opens c.args.image.now c.args.g c.requires.1 _ c.seen_in-seen.ensures _ c.best_in-best.ensures _ c.one_in-one.ensures
+    _ c.load_message-m.ensures
