@@ -131,7 +131,8 @@ fn the_table_of_refusals_is_the_crate_s() {
 }
 
 /// Each definition that the pages name is there: `Sizes.quorum` is `quorum` in
-/// Sizes.antt of the rules, `judging/Verdict.promised` one of another crate.
+/// Sizes.antt of the rules, `judging/Verdict.promised` one of another crate. A
+/// definition stands in specs/, a theorem there or in proofs/.
 #[test]
 fn every_definition_named_is_there() {
     for name in ["docs/RULES.md", "docs/GLOSSARY.md"] {
@@ -144,8 +145,11 @@ fn every_definition_named_is_there() {
                 continue;
             };
             let (of, file) = file.split_once('/').unwrap_or(("protocol", file));
-            let place = root().join(format!("crates/{of}/specs/{file}.antt"));
-            let text = fs::read_to_string(&place).unwrap_or_else(|_| panic!("{name}: {word}"));
+            let text = ["specs", "proofs"]
+                .map(|part| root().join(format!("crates/{of}/{part}/{file}.antt")))
+                .map(|place| fs::read_to_string(place).unwrap_or_default())
+                .concat();
+            assert!(!text.is_empty(), "{name}: {word}");
             let named = |line: &str| {
                 let mut words = line.split_whitespace();
                 words.any(|word| word == "pub") && {
