@@ -1,0 +1,32 @@
+use native.Mathlib.Omega.{arith}
+use borrow.Author.Rules.{rules}
+use Rattle.mail.specs.Stored.{image_size_lem}
+use Rattle.takes.specs.Takes.{walk_low, walk_on}
+use Rattle.view_changes.specs.Restarts.{as_image, unlink_zero, unlink_none, unlink_on}
+use Rattle.view_changes.proofs.restarts.+unlink.Goals as goal
+
+pub returns-then-n-eq0 : goal.returns-then-n-eq0
+returns-then-n-eq0 t c = search (unlink_zero, rules) depth 7 fits 4000
+
+pub returns-then-left-eq0 : goal.returns-then-left-eq0
+returns-then-left-eq0 t c = search (unlink_none, rules) depth 7 fits 4000
+
+pub load_message-m-requires : goal.load_message-m-requires
+load_message-m-requires t c =
+    let h = c.requires in
+    (h.legible.size, walk_low h (omega arith) (omega arith))
+
+pub unlink-requires : goal.unlink-requires
+unlink-requires t c =
+    let h = c.requires in
+    (omega arith, walk_on h (omega arith) (omega arith) _ c.load_message-m.ensures)
+
+pub store_message-requires : goal.store_message-requires
+store_message-requires t c =
+    let h = c.requires in
+    (image_size_lem (as_image _ h.legible c.unlink.ensures), walk_low h (omega arith) (omega arith))
+
+pub returns : goal.returns
+returns t c =
+    let h = c.requires in
+    unlink_on h (omega arith) (omega arith) _ _ c.load_message-m.ensures c.linked-plain.ensures c.unlink.ensures c.store_message.ensures
