@@ -50,6 +50,7 @@ pub fn still_one(one: bool, had: Entry, shown: Entry) -> bool
 }
 
 // One older answer more to a tally of view t: of another view it changes nothing, and of two equal stamps the older stays.
+#[tactic(auto, unfolding(crate::specs::Tallies::add_answer))]
 pub fn add_answer(a: Tally, t: ViewNumber, m: Message) -> Tally
     ensures { result ≡ add_answer a t.0 m }
 {
