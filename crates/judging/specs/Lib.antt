@@ -1,13 +1,5 @@
 pub mod Orders
 pub mod Decision
-pub mod Lists
-pub mod Sorted
-pub mod Sound
-pub mod Complete
 pub mod Logs
 pub mod Verdict
-pub mod Examples
-pub mod Ways
 pub mod Sorting
-pub mod Passes
-pub mod Answers

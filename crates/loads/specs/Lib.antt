@@ -1,4 +1,2 @@
 pub mod Draws
 pub mod Load
-pub mod Passes
-pub mod Samples

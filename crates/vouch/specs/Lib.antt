@@ -2,9 +2,5 @@ pub mod Answers
 pub mod Choices
 pub mod Checks
 pub mod Seen
-pub mod Ways
-pub mod Examples
-pub mod Counting
-pub mod Best
 pub mod Theorem
 pub mod Readings

@@ -1,4 +1,4 @@
-use Rattle.judging.specs.Ways.{all_none, before_no, before_more, before_end}
+use Rattle.judging.proofs.Ways.{all_none, before_no, before_more, before_end}
 use borrow.Author.Rules.{rules}
 use native.Mathlib.Omega.{arith}
 use Rattle.judging.proofs.formed.apart_before.Goals as goal

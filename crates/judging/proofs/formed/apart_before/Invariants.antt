@@ -1,7 +1,7 @@
 use Prim.Native.Nat.{◌+◌, ◌-◌, ◌≤◌}
 use mathlib.Core.Path.{◌≡◌}
 use Rattle.judging.specs.Logs.{line_at}
-use Rattle.judging.specs.Ways.{All, apart_from}
+use Rattle.judging.proofs.Ways.{All, apart_from}
 use Rattle.judging.proofs.formed.apart_before.Given as goal
 
 abbrev pub invariant-loop-j : goal.invariant-loop-j

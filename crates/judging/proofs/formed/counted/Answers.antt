@@ -1,4 +1,4 @@
-use Rattle.judging.specs.Ways.{read_counted, write_counted}
+use Rattle.judging.proofs.Ways.{read_counted, write_counted}
 use borrow.Author.Rules.{rules}
 use Rattle.judging.proofs.formed.counted.Goals as goal
 

@@ -1,4 +1,4 @@
-use Rattle.judging.specs.Ways.{open_end, later_end}
+use Rattle.judging.proofs.Ways.{open_end, later_end}
 use borrow.Author.Rules.{rules}
 use Rattle.judging.proofs.formed.ends_later.Goals as goal
 

@@ -1,4 +1,4 @@
-use Rattle.judging.specs.Ways.{fits_lent}
+use Rattle.judging.proofs.Ways.{fits_lent}
 use borrow.Author.Rules.{rules}
 use Rattle.judging.proofs.formed.fits_at.Goals as goal
 

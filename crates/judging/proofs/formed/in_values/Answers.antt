@@ -1,4 +1,4 @@
-use Rattle.judging.specs.Ways.{values_begin, values_low, values_high, values_last}
+use Rattle.judging.proofs.Ways.{values_begin, values_low, values_high, values_last}
 use borrow.Author.Rules.{rules}
 use Rattle.judging.proofs.formed.in_values.Goals as goal
 

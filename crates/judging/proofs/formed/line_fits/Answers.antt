@@ -1,4 +1,4 @@
-use Rattle.judging.specs.Ways.{fits_spare, fits_spare2, fits_values, fits_end, fits_last}
+use Rattle.judging.proofs.Ways.{fits_spare, fits_spare2, fits_values, fits_end, fits_last}
 use borrow.Author.Rules.{rules}
 use Rattle.judging.proofs.formed.line_fits.Goals as goal
 

@@ -1,4 +1,4 @@
-use Rattle.judging.specs.Ways.{all_none, lines_no, lines_more, lines_end}
+use Rattle.judging.proofs.Ways.{all_none, lines_no, lines_more, lines_end}
 use borrow.Author.Rules.{rules}
 use native.Mathlib.Omega.{arith}
 use Rattle.judging.proofs.formed.lines_fit.Goals as goal

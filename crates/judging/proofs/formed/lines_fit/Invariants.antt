@@ -1,5 +1,5 @@
 use Prim.Native.Nat.{◌-◌, ◌≤◌}
-use Rattle.judging.specs.Ways.{All, fits_among}
+use Rattle.judging.proofs.Ways.{All, fits_among}
 use Rattle.judging.proofs.formed.lines_fit.Given as goal
 
 abbrev pub invariant-loop-i : goal.invariant-loop-i

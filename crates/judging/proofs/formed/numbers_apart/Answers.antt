@@ -1,4 +1,4 @@
-use Rattle.judging.specs.Ways.{begins_meet, begin_meets, end_meets, open_apart, ends_apart}
+use Rattle.judging.proofs.Ways.{begins_meet, begin_meets, end_meets, open_apart, ends_apart}
 use borrow.Author.Rules.{rules}
 use Rattle.judging.proofs.formed.numbers_apart.Goals as goal
 

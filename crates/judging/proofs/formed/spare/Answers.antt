@@ -1,4 +1,4 @@
-use Rattle.judging.specs.Ways.{spare_no, spare_no2, spare_last}
+use Rattle.judging.proofs.Ways.{spare_no, spare_no2, spare_last}
 use borrow.Author.Rules.{rules}
 use Rattle.judging.proofs.formed.spare.Goals as goal
 

@@ -1,4 +1,4 @@
-use Rattle.judging.specs.Ways.{no_write, no_write2, no_count, no_writer}
+use Rattle.judging.proofs.Ways.{no_write, no_write2, no_count, no_writer}
 use borrow.Author.Rules.{rules}
 use Rattle.judging.proofs.formed.stamps_apart.Goals as goal
 

@@ -1,4 +1,4 @@
-use Rattle.judging.specs.Ways.{over_no, well_last}
+use Rattle.judging.proofs.Ways.{over_no, well_last}
 use borrow.Author.Rules.{rules}
 use Rattle.judging.proofs.formed.well_logged.Goals as goal
 

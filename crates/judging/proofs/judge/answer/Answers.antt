@@ -1,4 +1,4 @@
-use Rattle.judging.specs.Answers.{cut_short, misfit, malformed, formed_few, formed}
+use Rattle.judging.proofs.Answering.{cut_short, misfit, malformed, formed_few, formed}
 use borrow.Author.Rules.{rules}
 use Rattle.judging.proofs.judge.answer.Goals as goal
 

@@ -1,4 +1,4 @@
-use Rattle.judging.specs.Answers.{first_numbers, out_of_order, in_order}
+use Rattle.judging.proofs.Answering.{first_numbers, out_of_order, in_order}
 use borrow.Author.Rules.{rules}
 use Rattle.judging.proofs.judge.decide.Goals as goal
 

@@ -1,5 +1,5 @@
 use borrow.Author.Rules.{rules}
-use Rattle.judging.specs.Answers.{keeps_promise}
+use Rattle.judging.proofs.Answering.{keeps_promise}
 use Rattle.judging.proofs.judge.judge.Goals as goal
 
 pub returns-clause-promise : goal.returns-clause-promise

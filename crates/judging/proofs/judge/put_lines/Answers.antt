@@ -1,4 +1,4 @@
-use Rattle.judging.specs.Passes.{list_start, list_more, list_end}
+use Rattle.judging.proofs.Walks.{list_start, list_more, list_end}
 use borrow.Author.Rules.{rules}
 use Rattle.judging.proofs.judge.put_lines.Goals as goal
 

@@ -1,6 +1,6 @@
 use Prim.Native.Nat.{◌-◌}
 use lib.ListN.{length}
-use Rattle.judging.specs.Passes.{Listing}
+use Rattle.judging.proofs.Walks.{Listing}
 use Rattle.judging.proofs.judge.put_lines.Given as goal
 
 abbrev pub invariant-loop-q : goal.invariant-loop-q

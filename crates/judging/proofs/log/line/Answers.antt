@@ -1,4 +1,4 @@
-use Rattle.judging.specs.Ways.{line_lent}
+use Rattle.judging.proofs.Ways.{line_lent}
 use borrow.Author.Rules.{rules}
 use Rattle.judging.proofs.log.line.Goals as goal
 

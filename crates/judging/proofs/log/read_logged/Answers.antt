@@ -1,4 +1,4 @@
-use Rattle.judging.specs.Ways.{logged_read}
+use Rattle.judging.proofs.Ways.{logged_read}
 use borrow.Author.Rules.{rules}
 use Rattle.judging.proofs.log.read_logged.Goals as goal
 

@@ -3,7 +3,7 @@ use lib.ListN.{length}
 use Rattle.protocol.specs.Entries.{empty}
 use Rattle.judging.specs.Decision.{follows, last_write}
 use Rattle.judging.specs.Logs.{line_at}
-use Rattle.judging.specs.Passes.{Along}
+use Rattle.judging.proofs.Walks.{Along}
 use Rattle.judging.proofs.passes.answers.Given as goal
 
 abbrev pub invariant-loop-q : goal.invariant-loop-q

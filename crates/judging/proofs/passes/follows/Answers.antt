@@ -1,4 +1,4 @@
-use Rattle.judging.specs.Passes.{write_follows, read_follows}
+use Rattle.judging.proofs.Walks.{write_follows, read_follows}
 use borrow.Author.Rules.{rules}
 use Rattle.judging.proofs.passes.follows.Goals as goal
 

@@ -1,4 +1,4 @@
-use Rattle.judging.specs.Passes.{begin_last, begin_kept}
+use Rattle.judging.proofs.Walks.{begin_last, begin_kept}
 use borrow.Author.Rules.{rules}
 use Rattle.judging.proofs.passes.last_begin.Goals as goal
 

@@ -1,4 +1,4 @@
-use Rattle.judging.specs.Passes.{write_last, read_last}
+use Rattle.judging.proofs.Walks.{write_last, read_last}
 use borrow.Author.Rules.{rules}
 use Rattle.judging.proofs.passes.last_write.Goals as goal
 

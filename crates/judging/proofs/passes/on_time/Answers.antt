@@ -1,4 +1,4 @@
-use Rattle.judging.specs.Passes.{open_timely, done_timely}
+use Rattle.judging.proofs.Walks.{open_timely, done_timely}
 use borrow.Author.Rules.{rules}
 use Rattle.judging.proofs.passes.on_time.Goals as goal
 

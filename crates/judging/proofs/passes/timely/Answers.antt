@@ -1,4 +1,4 @@
-use Rattle.judging.specs.Passes.{along_no, along_more, along_end}
+use Rattle.judging.proofs.Walks.{along_no, along_more, along_end}
 use borrow.Author.Rules.{rules}
 use Rattle.judging.proofs.passes.timely.Goals as goal
 

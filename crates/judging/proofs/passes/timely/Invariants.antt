@@ -2,7 +2,7 @@ use Prim.Native.Nat.{◌-◌}
 use lib.ListN.{length}
 use Rattle.judging.specs.Decision.{on_time, last_begin}
 use Rattle.judging.specs.Logs.{line_at}
-use Rattle.judging.specs.Passes.{Along}
+use Rattle.judging.proofs.Walks.{Along}
 use Rattle.judging.proofs.passes.timely.Given as goal
 
 abbrev pub invariant-loop-q : goal.invariant-loop-q

@@ -1,4 +1,4 @@
-use Rattle.loads.specs.Draws.{drawn_none, drawn_some}
+use Rattle.loads.proofs.Drawing.{drawn_none, drawn_some}
 use borrow.Author.Rules.{rules}
 use Rattle.loads.proofs.draws.drawn.Goals as goal
 

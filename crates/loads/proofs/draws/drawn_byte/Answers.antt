@@ -1,4 +1,4 @@
-use Rattle.loads.specs.Draws.{byte_fits}
+use Rattle.loads.proofs.Drawing.{byte_fits}
 use borrow.Author.Rules.{rules}
 use Rattle.loads.proofs.draws.drawn_byte.Goals as goal
 

@@ -1,4 +1,4 @@
-use Rattle.loads.specs.Draws.{half_fits}
+use Rattle.loads.proofs.Drawing.{half_fits}
 use borrow.Author.Rules.{rules}
 use Rattle.loads.proofs.draws.drawn_half.Goals as goal
 

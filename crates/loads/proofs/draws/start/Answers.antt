@@ -1,5 +1,5 @@
 use borrow.Author.Rules.{rules}
-use Rattle.loads.specs.Draws.{start_zero, start_other}
+use Rattle.loads.proofs.Drawing.{start_zero, start_other}
 use Rattle.loads.proofs.draws.start.Goals as goal
 
 pub returns-then-seed-eq0 : goal.returns-then-seed-eq0

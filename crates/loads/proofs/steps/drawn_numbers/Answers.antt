@@ -1,4 +1,4 @@
-use Rattle.loads.specs.Draws.{numbers_made}
+use Rattle.loads.proofs.Drawing.{numbers_made}
 use borrow.Author.Rules.{rules}
 use Rattle.loads.proofs.steps.drawn_numbers.Goals as goal
 

@@ -1,4 +1,4 @@
-use Rattle.loads.specs.Draws.{places_made}
+use Rattle.loads.proofs.Drawing.{places_made}
 use borrow.Author.Rules.{rules}
 use Rattle.loads.proofs.steps.drawn_places.Goals as goal
 

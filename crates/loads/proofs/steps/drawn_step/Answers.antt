@@ -1,4 +1,4 @@
-use Rattle.loads.specs.Draws.{step_made}
+use Rattle.loads.proofs.Drawing.{step_made}
 use borrow.Author.Rules.{rules}
 use Rattle.loads.proofs.steps.drawn_step.Goals as goal
 

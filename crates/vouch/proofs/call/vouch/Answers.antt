@@ -1,4 +1,4 @@
-use Rattle.vouch.specs.Ways.{fails, holds_so, refused_1, refused_14, chosen_one}
+use Rattle.vouch.proofs.Ways.{fails, holds_so, refused_1, refused_14, chosen_one}
 use Rattle.vouch.specs.Checks.{vouch_on}
 use borrow.Author.Rules.{rules}
 use Rattle.vouch.proofs.call.vouch.Goals as goal

@@ -1,4 +1,4 @@
-use Rattle.vouch.specs.Ways.{stop, pass, some_server, fails, holds_so, refused_1, refused_14, chosen_one}
+use Rattle.vouch.proofs.Ways.{stop, pass, some_server, fails, holds_so, refused_1, refused_14, chosen_one}
 use Rattle.vouch.specs.Checks.{threshold_on}
 use borrow.Author.Rules.{rules}
 use Rattle.vouch.proofs.call.vouch_threshold.Goals as goal

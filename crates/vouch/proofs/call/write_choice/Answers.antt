@@ -1,4 +1,4 @@
-use Rattle.vouch.specs.Ways.{written}
+use Rattle.vouch.proofs.Ways.{written}
 use borrow.Author.Rules.{rules}
 use Rattle.vouch.proofs.call.write_choice.Goals as goal
 

@@ -1,4 +1,4 @@
-use Rattle.vouch.specs.Ways.{stop, pass}
+use Rattle.vouch.proofs.Ways.{stop, pass}
 use Rattle.vouch.specs.Checks.{answer_fits}
 use borrow.Author.Rules.{rules}
 use Rattle.vouch.proofs.checks.answer_fits.Goals as goal

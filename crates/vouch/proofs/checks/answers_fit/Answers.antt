@@ -1,4 +1,4 @@
-use Rattle.vouch.specs.Ways.{all_start, fits_more, fits_fails}
+use Rattle.vouch.proofs.Ways.{all_start, fits_more, fits_fails}
 use Rattle.vouch.specs.Checks.{answer_fits}
 use borrow.Author.Rules.{rules}
 use Rattle.vouch.proofs.checks.answers_fit.Goals as goal

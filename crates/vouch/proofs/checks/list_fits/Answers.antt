@@ -1,4 +1,4 @@
-use Rattle.vouch.specs.Ways.{stop, pass, most_of}
+use Rattle.vouch.proofs.Ways.{stop, pass, most_of}
 use Rattle.vouch.specs.Checks.{list_fits}
 use borrow.Author.Rules.{rules}
 use Rattle.vouch.proofs.checks.list_fits.Goals as goal

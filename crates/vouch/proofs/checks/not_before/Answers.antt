@@ -1,4 +1,4 @@
-use Rattle.vouch.specs.Ways.{all_start, other_more, other_fails, other_all}
+use Rattle.vouch.proofs.Ways.{all_start, other_more, other_fails, other_all}
 use Rattle.vouch.specs.Checks.{other}
 use borrow.Author.Rules.{rules}
 use Rattle.vouch.proofs.checks.not_before.Goals as goal

@@ -1,4 +1,4 @@
-use Rattle.vouch.specs.Ways.{zero_stop, zero_pass}
+use Rattle.vouch.proofs.Ways.{zero_stop, zero_pass}
 use Rattle.vouch.specs.Checks.{three_clear}
 use borrow.Author.Rules.{rules}
 use Rattle.vouch.proofs.checks.three_clear.Goals as goal

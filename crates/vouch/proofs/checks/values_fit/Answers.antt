@@ -1,4 +1,4 @@
-use Rattle.vouch.specs.Ways.{stop, pass, fits_shown}
+use Rattle.vouch.proofs.Ways.{stop, pass, fits_shown}
 use Rattle.vouch.specs.Checks.{values_fit}
 use borrow.Author.Rules.{rules}
 use Rattle.vouch.proofs.checks.values_fit.Goals as goal

@@ -1,4 +1,4 @@
-use Rattle.vouch.specs.Ways.{best_start, best_more}
+use Rattle.vouch.proofs.Ways.{best_start, best_more}
 use borrow.Author.Rules.{rules}
 use Rattle.vouch.proofs.choice.best.Goals as goal
 

@@ -1,4 +1,4 @@
-use Rattle.vouch.specs.Ways.{outranks_first, outranks_not, outranks_value}
+use Rattle.vouch.proofs.Ways.{outranks_first, outranks_not, outranks_value}
 use borrow.Author.Rules.{rules}
 use Rattle.vouch.proofs.choice.outranks.Goals as goal
 

@@ -1,4 +1,4 @@
-use Rattle.vouch.specs.Seen.{seen_start, seen_more, seen_showing}
+use Rattle.vouch.proofs.Seen.{seen_start, seen_more, seen_showing}
 use borrow.Author.Rules.{rules}
 use Rattle.vouch.proofs.support.showing.Goals as goal
 

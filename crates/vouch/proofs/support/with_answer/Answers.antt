@@ -1,4 +1,4 @@
-use Rattle.vouch.specs.Seen.{seen_skips, seen_adds}
+use Rattle.vouch.proofs.Seen.{seen_skips, seen_adds}
 use borrow.Author.Rules.{rules}
 use Rattle.vouch.proofs.support.with_answer.Goals as goal
 

@@ -20,8 +20,8 @@ use Rattle.protocol.proofs.Laws.Entries.{◌≼◌, by_count, by_writer}
 use Rattle.judging.specs.declared.Logged.{Logged}
 use Rattle.judging.specs.Orders.{logged_operation, operations, NeverFalling, OrderOf}
 use Rattle.judging.specs.Decision.{stamp_rank, rank, returns, some_to, returned, stands, sorted, follows, last_write, on_time, last_begin, along, answers, timely, passes}
-use Rattle.judging.specs.Lists.{Image, in_map, map_in, Numbered, in_list_to, list_to_in, equal_reads}
-use Rattle.judging.specs.Sorted.{Sane, Fine, rank_begin, rank_stamp, rank_write, Rising, next, in_sorted, sorted_in, sorted_rising}
+use Rattle.judging.proofs.Lists.{Image, in_map, map_in, Numbered, in_list_to, list_to_in, equal_reads}
+use Rattle.judging.proofs.Sorted.{Sane, Fine, rank_begin, rank_stamp, rank_write, Rising, next, in_sorted, sorted_in, sorted_rising}
 
 -- entries that agree in every field are one
 pub same_is : (a b : Entry) → same a b ≡ true → a ≡ b
@@ -134,7 +134,7 @@ module _ (line : ℕ → Logged) where
   -- ---- ranks and places
 
   pub ahead : {l : List ℕ} → Rising line l → {i j : ℕ} → In i l → In j l → rank (line i) < rank (line j) → Before (op i) (op j) (map op l)
-  ahead Rattle.judging.specs.Sorted.empty {i = i} {j = j} x7 _ g = elim x7 [ ]
+  ahead Rattle.judging.proofs.Sorted.empty {i = i} {j = j} x7 _ g = elim x7 [ ]
   ahead (next r s) (here p) (here q) g = absurd (omega (arith, ap (λ (x : ℕ). rank (line x)) p, ap (λ (x : ℕ). rank (line x)) q))
   ahead (next {l = l} r s) (here p) (there n) g = now (ap op p) (map_in op l n)
   ahead (next r s) {i} (there m) (here q) g = absurd (omega (arith, ap (λ (x : ℕ). rank (line x)) q, r i m))

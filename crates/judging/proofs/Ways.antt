@@ -15,7 +15,7 @@ use Rattle.codec.specs.Lists.{part, span}
 use Rattle.codec.specs.Records.{entry_of}
 use Rattle.judging.specs.declared.Logged.{Logged}
 use Rattle.judging.specs.Decision.{returns, some_to, returned, stands}
-use Rattle.judging.specs.Sound.{passing_some}
+use Rattle.judging.proofs.Sound.{passing_some}
 use Rattle.judging.specs.Logs.{line_width, most_lines, lines_of, logged_of, line_bytes, line_at}
 use Rattle.judging.specs.Logs.{spare, in_values, ends_later, counted, numbers_apart, stamps_apart, line_fits, apart_before, lines_fit, well_logged}
 

@@ -14,17 +14,17 @@ use Rattle.std.proofs.Math.Dec.{leb}
 use borrow.Author.Tests.{le-leb, eq-eqb, ne_eqb}
 use Rattle.protocol.specs.declared.Entry.{Entry}
 use Rattle.protocol.specs.Tools.{if}
-use Rattle.protocol.specs.Entries.{empty, writer_of, same}
+use Rattle.protocol.specs.Entries.{empty, writer_of}
 use Rattle.protocol.specs.Clients.{WRITES, READS}
 use Rattle.protocol.specs.Consistent.{Operation, In, here, there, Before}
 use Rattle.protocol.proofs.Laws.Tests.{and_both}
 use Rattle.protocol.proofs.Laws.Entries.{◌≼◌, by_count, by_writer}
 use Rattle.judging.specs.declared.Logged.{Logged}
 use Rattle.judging.specs.Orders.{operations, OrderOf}
-use Rattle.judging.specs.Decision.{stamp_rank, rank, stands, sorted, follows, last_write, on_time, last_begin, along, answers, timely, passes}
-use Rattle.judging.specs.Lists.{Image, before_in, one_way, From, held, from, returned_from}
-use Rattle.judging.specs.Sorted.{Sane, Fine, rank_stamp, rank_write, rank_level, Rising, next, in_sorted, sorted_rising}
-use Rattle.judging.specs.Sound.{is_same, some_is, op, line_in, line_stands, order_in}
+use Rattle.judging.specs.Decision.{stamp_rank, rank, sorted, follows, last_write, on_time, last_begin, along, answers, timely, passes}
+use Rattle.judging.proofs.Lists.{Image, before_in, one_way, From, held, from, returned_from}
+use Rattle.judging.proofs.Sorted.{Sane, Fine, rank_stamp, rank_write, rank_level, Rising, next, in_sorted, sorted_rising}
+use Rattle.judging.proofs.Sound.{is_same, some_is, op, line_in, line_stands, order_in}
 
 module _ (line : ℕ → Logged) where
   -- where the entry of a read comes from: e, or a write of the list

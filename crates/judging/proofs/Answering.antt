@@ -12,8 +12,10 @@ use Rattle.judging.specs.declared.Judgement.{Judgement}
 use Rattle.judging.specs.declared.Judgement.TheVariants.{JudgeRefused, InOrder}
 use Rattle.judging.specs.Decision.{sorted, answers, timely, passes}
 use Rattle.judging.specs.Logs.{line_width, lines_of, line_at, most_lines, well_logged}
-use Rattle.judging.specs.Sorting.{Numbers, sorted_numbers}
-use Rattle.judging.specs.Verdict.{place_width, lengths_fit, decided, judged, judgement, Judges, order_bytes, Promise, promised}
+use Rattle.judging.specs.Sorting.{Numbers}
+use Rattle.judging.proofs.Sorting.{sorted_numbers}
+use Rattle.judging.specs.Verdict.{place_width, lengths_fit, decided, judged, judgement, Judges, order_bytes, Promise}
+use Rattle.judging.proofs.Verdict.{promised}
 
 -- ---- a well-formed log: the first k of the lines that were sorted
 

@@ -13,7 +13,8 @@ use Rattle.protocol.specs.Tools.{if}
 use Rattle.protocol.specs.Sizes.{messages}
 use Rattle.protocol.specs.Runs.{step_width, step_of}
 use Rattle.loads.specs.declared.Drawn.{Drawn}
-use Rattle.loads.specs.Draws.{start, drawn, load_kinds, load_thresholds, drawn_places, drawn_numbers, drawn_step, drawn_fits, drawn_high}
+use Rattle.loads.specs.Draws.{start, drawn, load_kinds, load_thresholds, drawn_places, drawn_numbers, drawn_step}
+use Rattle.loads.proofs.Drawing.{drawn_fits, drawn_high}
 use Rattle.loads.specs.Load.{spelled, longer, load_from, journal_of, length_spelled, length_load}
 
 -- a field of a narrower range fits the wider one

@@ -15,7 +15,8 @@ use Rattle.codec.specs.Bytes.{le16}
 use Rattle.codec.specs.Lists.{put, flat, length_flat, put_right}
 use Rattle.judging.specs.declared.Logged.{Logged}
 use Rattle.judging.specs.Decision.{follows, last_write, on_time, last_begin, along}
-use Rattle.judging.specs.Sorting.{Numbers, drop_all}
+use Rattle.judging.specs.Sorting.{Numbers}
+use Rattle.judging.proofs.Sorting.{drop_all}
 use Rattle.judging.specs.Verdict.{place_width, order_bytes}
 
 -- ---- one line after those before it

@@ -1,5 +1,5 @@
 -- Logs whose answers are computed: what is judged yes, with its order, what is judged no, and each clause of 14.
-use Rattle.std.specs.Prelude.{ℕ, ◌+◌, ◌*◌, Bool, ◌≡◌, refl, List, [], ◌∷◌, ◌++◌, length, replicate}
+use Rattle.std.specs.Prelude.{ℕ, ◌*◌, Bool, ◌≡◌, refl, List, [], ◌∷◌, ◌++◌, length, replicate}
 use Rattle.protocol.specs.Tools.{Result, refused, done, guard, all_to}
 use Rattle.protocol.specs.Entries.{entry, same, entry_fits}
 use Rattle.codec.specs.Bytes.{le16}

@@ -1,0 +1,11 @@
+pub mod Lists
+pub mod Sorted
+pub mod Sound
+pub mod Complete
+pub mod Logs
+pub mod Verdict
+pub mod Examples
+pub mod Ways
+pub mod Sorting
+pub mod Walks
+pub mod Answering

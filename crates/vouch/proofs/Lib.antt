@@ -1,0 +1,7 @@
+pub mod Seen
+pub mod Ways
+pub mod Examples
+pub mod Counting
+pub mod Best
+pub mod Theorem
+pub mod Readings
