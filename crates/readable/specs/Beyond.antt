@@ -22,7 +22,6 @@ use Rattle.codec.specs.Lists.{part, length_part}
 use Rattle.codec.specs.Bytes.{Bytes, bytes_part, zeros as zeros_from}
 use Rattle.codec.specs.Records.{entry_of, entry_bytes, message_of, message_bytes, message_plain, entry_plain}
 use Rattle.codec.specs.Places.{used_at, message_at}
-use Rattle.codec.specs.Images.{decode}
 use Rattle.codec.specs.Laws.{message_decode}
 use Rattle.codec.specs.Spelling.{message_plain_lem}
 use Rattle.codec.specs.Whole.{message_plain_at}

@@ -7,7 +7,7 @@ use Rattle.protocol.specs.Tools.{within, both, join}
 use Rattle.protocol.specs.Sizes.{views, messages}
 use Rattle.protocol.specs.Entries.{entry_fits}
 use Rattle.protocol.specs.Servers.{READ, ANSWER, is_request}
-use Rattle.protocol.specs.Worlds.{World, view, server, client, message, newest, present}
+use Rattle.protocol.specs.Worlds.{World, message, newest, present}
 use Rattle.protocol.specs.Readable.{is_sent, header_fits, sender_fits, tag_rule, request_fits, next_fits, entry_zero, sent_fits, zero_message, message_fits}
 use Rattle.codec.specs.Laws.{Full}
 use Rattle.protocol.proofs.Laws.Tests.{by_test, clash}

@@ -19,7 +19,7 @@ use Rattle.protocol.specs.Servers.{READ, WRITE, END, ANSWER, is_request}
 use Rattle.protocol.specs.Clients.{WRITES, READS, request_of, end_of}
 use Rattle.protocol.specs.Worlds.{World, view, server, client, message, newest, present}
 use Rattle.protocol.specs.Chains.{chain}
-use Rattle.protocol.specs.Readable.{is_sent, ending_fits, last_view, zero_view, view_fits, server_fits, phase_fits, client_range, client_fits, sent_fits, zero_message, message_fits, taken_answer, chain_fits, well_formed}
+use Rattle.protocol.specs.Readable.{is_sent, ending_fits, last_view, zero_view, view_fits, server_fits, phase_fits, client_range, client_fits, sent_fits, zero_message, message_fits, taken_answer, well_formed}
 use Rattle.codec.specs.Layout.{image_size}
 use Rattle.codec.specs.Records.{EntryFits, ViewFits, ServerFits, ClientFits, MessageFits}
 use Rattle.codec.specs.Images.{encode, decode}

@@ -9,8 +9,7 @@ use Rattle.protocol.specs.declared.Administrator.{Administrator}
 use Rattle.protocol.specs.declared.Message.{Message}
 use Rattle.protocol.specs.Tools.{if, within, count_to, all_to, both, join, sum_to}
 use Rattle.protocol.specs.Sizes.{clients, servers, views, messages}
-use Rattle.protocol.specs.Servers.{END, is_request}
-use Rattle.protocol.specs.Clients.{is_ending}
+use Rattle.protocol.specs.Servers.{END}
 use Rattle.protocol.specs.Worlds.{World, message, present}
 use Rattle.protocol.specs.Readable.{view_rule, server_rule, message_rule, last_of, is_asked}
 use Rattle.protocol.specs.Readable.{is_sent, ending_fits, sent_fits, phase_fits, header_fits, last_view, view_fits, server_fits, client_range, client_fits, zero_message, message_fits, taken_answer, chain_fits}

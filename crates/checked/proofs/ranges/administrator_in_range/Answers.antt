@@ -1,7 +1,6 @@
 use Rattle.protocol.proofs.Laws.Tests.{passed_test, is_true}
 use mathlib.Core.Path.{sym, ◌∙◌}
 use borrow.Author.Rules.{rules}
-use borrow.Author.Tests.{not-true}
 use Rattle.protocol.specs.Tools.{pass}
 use Rattle.checked.specs.Ranges.{administrator_in_range}
 use Rattle.checked.proofs.ranges.administrator_in_range.Goals as goal

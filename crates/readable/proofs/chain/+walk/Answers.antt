@@ -1,7 +1,4 @@
 use mathlib.Core.Path.{sym, ap, ◌∙◌}
-use Prim.Native.Nat.{ℕ, ◌<◌}
-use native.Mathlib.Omega.{arith}
-use borrow.Author.Tests.{not-true, not-false}
 use borrow.Author.Rules.{rules}
 use Rattle.readable.specs.Walks.{numbered, walked_end, walked_out, walked_stray, walked_on}
 use Rattle.codec.specs.Images.{decode}

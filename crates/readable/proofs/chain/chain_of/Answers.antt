@@ -3,7 +3,6 @@ use native.Mathlib.Omega.{arith}
 use Rattle.protocol.specs.Sizes.{messages}
 use Rattle.codec.specs.Images.{decode}
 use borrow.Author.Tests.{le-leb, lt-leb}
-use borrow.Author.Rules.{rules}
 use Rattle.codec.specs.Laws.{message_decode}
 use Rattle.readable.specs.Walks.{chained, walked_broken, walked_whole}
 use Rattle.readable.proofs.chain.chain_of.Goals as goal

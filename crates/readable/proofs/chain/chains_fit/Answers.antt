@@ -1,11 +1,8 @@
 use mathlib.Core.Path.{◌≡◌, sym, ap, ◌∙◌}
 use mathlib.Core.Bool.{true}
-use mathlib.Core.Logic.{⊎_elim}
-use Prim.Native.Nat.{◌+◌, ◌*◌, ◌-◌, ◌≤◌}
+use Prim.Native.Nat.{◌+◌}
 use native.Mathlib.Omega.{arith}
-use borrow.Author.Rules.{rules}
-use Rattle.protocol.specs.Sizes.{messages}
-use Rattle.protocol.specs.Tools.{pass, sum_to, count_to, all_to}
+use Rattle.protocol.specs.Tools.{pass}
 use Rattle.codec.specs.Images.{decode}
 use Rattle.readable.specs.Scan.{open_used, chains_rule}
 use Rattle.protocol.proofs.Laws.Tests.{count_le}
@@ -61,7 +58,7 @@ loop-k-preserved c =
     let w = decode c.args.image.now in
     let f : (chain_sound w (l.k + 1) ≡ true) × (c.if-is_request.sum ≡ l.sum + links w (l.k + 1)) =
     elim c.if-is_request.branch [
-        then-is_request+in-Whole p ↦
+      | then-is_request+in-Whole p ↦
           let q = whole (chain_sound w (l.k + 1)) (links w (l.k + 1)) p.in-Whole.links (sym (chained_links w (l.k + 1)) ∙ sym p.chain_of-chain.ensures ∙ ap followed p.in-Whole.is) in
           let e : c.if-is_request.sum ≡ l.sum + p.in-Whole.links = p.sum-is in
           (q.0, omega (arith, e, q.1))

@@ -1,16 +1,9 @@
-use mathlib.Core.Path.{◌≡◌, sym, ap, ◌∙◌}
+use mathlib.Core.Path.{◌≡◌}
 use mathlib.Core.Bool.{true}
-use mathlib.Core.Logic.{⊎_elim}
-use Prim.Native.Nat.{◌+◌, ◌*◌, ◌-◌, ◌≤◌}
-use native.Mathlib.Omega.{arith}
-use borrow.Author.Rules.{rules}
+use Prim.Native.Nat.{◌*◌, ◌-◌, ◌≤◌}
 use Rattle.protocol.specs.Sizes.{messages}
-use Rattle.protocol.specs.Tools.{pass, sum_to, count_to, all_to}
+use Rattle.protocol.specs.Tools.{sum_to, count_to, all_to}
 use Rattle.codec.specs.Images.{decode}
-use Rattle.readable.specs.Scan.{open_used, chains_rule}
-use Rattle.protocol.proofs.Laws.Tests.{count_le}
-use Rattle.protocol.proofs.Laws.Loops.{all_start, all_more, all_fails, count_start, count_more, sum_start, sum_more}
-use Rattle.readable.specs.Walks.{followed, chained_links, whole, broken, no_chain, links_most}
 use Rattle.readable.specs.Chains.{chain_sound, links, is_taken}
 use Rattle.readable.proofs.chain.chains_fit.Given as goal
 

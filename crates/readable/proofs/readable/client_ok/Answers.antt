@@ -1,5 +1,4 @@
 use mathlib.Core.Path.{ap, sym, ◌∙◌}
-use borrow.Author.Tests.{not-true, not-false}
 use Rattle.protocol.specs.Tools.{pass}
 use Rattle.readable.specs.Scan.{client_ok}
 use Rattle.codec.specs.Records.{client_plain}

@@ -1,5 +1,5 @@
 use mathlib.Core.Path.{refl, ap, sym, ◌∙◌}
-use borrow.Author.Tests.{not-true, not-false, le-leb}
+use borrow.Author.Tests.{le-leb}
 use Rattle.protocol.specs.Tools.{pass}
 use native.Mathlib.Omega.{arith}
 use Rattle.readable.specs.Scan.{message_ok, open_used, beyond_rule}

@@ -1,7 +1,6 @@
 use mathlib.Core.Path.{◌≡◌, ap, sym, ◌∙◌}
 use Prim.Native.Nat.{◌+◌}
 use native.Mathlib.Omega.{arith}
-use borrow.Author.Tests.{not-true, not-false}
 use Rattle.protocol.specs.Tools.{pass, all_to}
 use Rattle.readable.specs.Scan.{message_ok, messages_ok, open_used}
 use Rattle.protocol.specs.Sizes.{messages}

@@ -1,6 +1,5 @@
 use mathlib.Core.Path.{ap, sym, ◌∙◌}
-use borrow.Author.Tests.{not-true, not-false}
-use borrow.Author.Rules.{rules}
+use borrow.Author.Tests.{not-false}
 use Rattle.protocol.specs.Tools.{pass}
 use Rattle.readable.specs.Scan.{open_header, servers_served, readable_scan, readable_size, scanned}
 use Rattle.protocol.specs.declared.Administrator.{Administrator}

@@ -2,7 +2,6 @@ use mathlib.Core.Path.{sym, ◌∙◌}
 use Prim.Native.Nat.{◌+◌}
 use native.Mathlib.Omega.{arith}
 use Rattle.protocol.specs.Sizes.{servers}
-use borrow.Author.Tests.{not-true, not-false}
 use Rattle.readable.specs.Scan.{server_ok}
 use Rattle.protocol.proofs.Laws.Loops.{all_start, all_more, all_fails}
 use Rattle.readable.proofs.readable.servers_ok.Goals as goal

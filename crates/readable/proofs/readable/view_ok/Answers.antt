@@ -1,5 +1,4 @@
 use mathlib.Core.Path.{ap, sym, ◌∙◌}
-use borrow.Author.Tests.{not-true, not-false}
 use Rattle.protocol.specs.Tools.{pass}
 use Rattle.readable.specs.Scan.{view_rule_lem, view_ok}
 use Rattle.codec.specs.Records.{view_plain}

@@ -2,7 +2,6 @@ use mathlib.Core.Path.{sym, ◌∙◌}
 use Prim.Native.Nat.{◌+◌}
 use native.Mathlib.Omega.{arith}
 use Rattle.protocol.specs.Sizes.{views}
-use borrow.Author.Tests.{not-true, not-false}
 use Rattle.readable.specs.Scan.{view_ok, open_high}
 use Rattle.protocol.proofs.Laws.Loops.{all_start, all_more, all_fails}
 use Rattle.readable.proofs.readable.views_ok.Goals as goal

@@ -1,5 +1,4 @@
 use mathlib.Core.Path.{sym, ◌∙◌}
-use borrow.Author.Tests.{not-true, not-false}
 use Rattle.protocol.specs.Tools.{pass}
 use Rattle.readable.specs.Scan.{client_rule_lem}
 use Rattle.readable.proofs.sent.client_fits.Goals as goal

@@ -1,5 +1,5 @@
 use mathlib.Core.Path.{sym, ◌∙◌}
-use borrow.Author.Tests.{le-leb, lt-leb, not-true, not-false}
+use borrow.Author.Tests.{le-leb, lt-leb}
 use Rattle.protocol.specs.Tools.{pass}
 use Rattle.readable.specs.Scan.{header_rule}
 use Rattle.readable.proofs.sent.header_fits.Goals as goal

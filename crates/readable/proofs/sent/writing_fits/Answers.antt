@@ -1,5 +1,4 @@
 use mathlib.Core.Path.{sym, ◌∙◌}
-use borrow.Author.Tests.{not-false}
 use borrow.Author.Rules.{rules}
 use Rattle.protocol.specs.Tools.{pass}
 use Rattle.codec.specs.Laws.{message_decode}
