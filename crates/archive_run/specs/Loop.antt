@@ -1,13 +1,12 @@
 -- What the program's loop does: the steps that it counts (`Led`), where it stops (`Stops`), and what a turn says of it (`Says`). Used by
 -- the contracts of the program's loop. Assumes nothing.
-use Rattle.std.specs.Prelude.{ℕ, ◌+◌, ◌-◌, ◌≤◌, ◌<◌, ◌≡◌, refl, List}
+use Rattle.std.specs.Prelude.{ℕ, ◌+◌, ◌≡◌, refl, List}
 use Rattle.std.proofs.Common.{arith, sym, ap, subst, ◌∙◌}
 use Rattle.protocol.specs.Tools.{Result, refused, done, passed}
 use Rattle.protocol.specs.Steps.{After}
 use Rattle.protocol.specs.Runs.{step_of}
 use Rattle.preservation.proofs.Kept.{step_kept}
 use Rattle.codec.specs.Images.{encode, decode}
-use Rattle.readable.specs.Readable.{world_decode}
 use Rattle.image.specs.Steps.{step_on, left_by}
 use Rattle.mail.specs.Images.{Legible}
 use Rattle.journal.specs.Replays.{spelled}

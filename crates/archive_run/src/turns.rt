@@ -58,6 +58,7 @@ pub fn first(image: &mut [u8], bytes: &[u8]) -> u8
 }
 
 // The line of the operation that client c completed, from its record in the image; none for no client.
+#[tactic(auto, using(crate::proofs::Completed::below_length, crate::proofs::Completed::below_bytes, crate::proofs::Completed::above_length, crate::proofs::Completed::above_bytes))]
 fn completed(image: &[u8], c: u8, out: &mut [u8]) -> usize
     requires { (length image.now ≡ image_size) × (line_width ≤ length out.old) }
     ensures { (result ≡ length (line_on image.now c)) × (out.new ≡ put out.old 0 (line_on image.now c)) }

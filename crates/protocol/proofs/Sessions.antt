@@ -5,11 +5,11 @@ use Rattle.protocol.specs.Types.{Entry, Idle, Reading, Writing}
 use Rattle.protocol.specs.Tools.{count_to, all_to, any, holds, bit_of, nth, replace, done, guard, all}
 use Rattle.protocol.specs.Sizes.{view_with, quorum, size, sized, read_size, write_size, one_exchange}
 use Rattle.protocol.specs.Entries.{entry, empty, below, larger, largest, chosen, same}
-use Rattle.protocol.specs.Servers.{WRITE, comparing, replacing, without_key, joining, gathering, serve, may_answer}
+use Rattle.protocol.specs.Servers.{comparing, replacing, without_key, joining, gathering, serve, may_answer}
 use Rattle.protocol.specs.Clients.{WRITES, READS, number, begin, give_up, next_count, to_write, given_by, count_left, close, call, advance, restart}
 use Rattle.protocol.specs.Worlds.{World, view, server, client, message, newest, member, present, room, with_server, with_client, with_view, with_message, with_administrator, send, list_to, fresh_world, fresh, bad, premise, content, unlinked, as_sent}
 use Rattle.protocol.specs.Chains.{follow, chain, heard, enough, shown, agreed}
-use Rattle.protocol.specs.Steps.{row_of, fields_fit, begins, gives_up, deliver, link, open?, closes, starts, takes, take, fault, source?, lie, new_view, perform, step, request, emptied, restarts}
+use Rattle.protocol.specs.Steps.{row_of, fields_fit, begins, gives_up, deliver, link, open?, closes, starts, takes, take, fault, source?, lie, new_view, perform, step, emptied, restarts}
 use Rattle.protocol.specs.Consistent.{Operation}
 use Rattle.protocol.specs.Runs.{step_of, step_bytes, Replayed, replay, tracked, Run, run, run_from, entry_of, operation, history}
 

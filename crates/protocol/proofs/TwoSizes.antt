@@ -1,7 +1,7 @@
 -- Computed runs of views with two sizes. Servers 1 to 3 with f 0 permit the read sizes 1, with write size 3, and 2, with write size 2.
 -- Assumes nothing.
 use Rattle.std.specs.Prelude.{ℕ, ◌≡◌, refl, List, [], ◌∷◌, ◌++◌}
-use Rattle.protocol.specs.Types.{Idle, Reading, Writing}
+use Rattle.protocol.specs.Types.{Reading, Writing}
 use Rattle.protocol.specs.Tools.{refused}
 use Rattle.protocol.specs.Sizes.{view_with}
 use Rattle.protocol.specs.Entries.{entry}

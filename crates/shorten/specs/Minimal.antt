@@ -27,9 +27,9 @@ module _ {A : Type 0} where
 
   pub part_part : {l m k : List A} → Part l m → Part m k → Part l k
   part_part h none = h
-  part_part h (less g) = less (part_part h g)
-  part_part (less h) (both g) = less (part_part h g)
-  part_part (both h) (both g) = both (part_part h g)
+  part_part {l = l} h (less g) = less (part_part {l = l} h g)
+  part_part {l = l} (less h) (both g) = less (part_part {l = l} h g)
+  part_part (both {x = x} {l = l} h) (both {l = l'} {m = m} g) = both (part_part {l = l} h g)
 
   pub part_length : {l m : List A} → Part l m → length l ≤ length m
   part_length none = omega arith

@@ -7,7 +7,7 @@ use Rattle.protocol.proofs.Laws.Tests.{by_test, within_true, is_within}
 use Rattle.codec.specs.Lists.{put, put_put, put_all}
 use Rattle.codec.specs.Bytes.{le32}
 use Rattle.image.specs.Steps.{Played, unplayed}
-use Rattle.journal.specs.Watch.{Watched, watch_on}
+use Rattle.journal.specs.Watch.{watch_on}
 use Rattle.phases.specs.declared.call.AnswerGiven.{AnswerGiven}
 use Rattle.phases.specs.Calls.{RecordTold, told_number, phase_left, entry_after, given_code, Answers}
 

@@ -5,7 +5,7 @@ use Rattle.protocol.specs.Types.{Entry, Server, Message, Idle, Reading, Writing}
 use Rattle.protocol.specs.Tools.{count_to, holds}
 use Rattle.protocol.specs.Sizes.{servers, read_size, write_size}
 use Rattle.protocol.specs.Entries.{empty}
-use Rattle.protocol.specs.Servers.{READ, WRITE, END, START, ANSWER, is_request}
+use Rattle.protocol.specs.Servers.{WRITE, END, START, ANSWER, is_request}
 use Rattle.protocol.specs.Clients.{READS, number, to_write, given_by}
 use Rattle.protocol.specs.Worlds.{World, view, server, client, newest, member}
 use Rattle.protocol.proofs.Laws.Entries.{◌≼◌}

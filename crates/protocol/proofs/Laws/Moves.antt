@@ -18,7 +18,7 @@ use Rattle.protocol.specs.Worlds.{World, view, server, client, message, newest, 
 use Rattle.protocol.specs.Steps.{After, moved, answer, answers, deliver, fault, source?, lie}
 use Rattle.protocol.proofs.Laws.Tests.{and_left, and_right, and_both, or_cases, by_test, clash, within_true, went}
 use Rattle.protocol.proofs.Laws.Bits.{holds_bit_of, holds_or, holds_none}
-use Rattle.protocol.proofs.Laws.Entries.{◌≼◌, ≼_refl, larger_left, larger_right, larger_one}
+use Rattle.protocol.proofs.Laws.Entries.{≼_refl, larger_left, larger_right, larger_one}
 use Rattle.protocol.proofs.Laws.Worlds.{content, sent, sent_send, message_new, server_same, server_other, length_replace}
 use Rattle.protocol.proofs.Laws.Kinds.{IsServer}
 use Rattle.protocol.proofs.Laws.Change.{Sent, stay, join, Given, Carried, written, begun, Grew, Honest, Asked, Shows, nothing, old, its, Said, Acted, same, New, Posted, none as unsent, one, Change, Moved}

@@ -10,19 +10,19 @@ use Rattle.std.proofs.lemmas.Bool.{eqb-false}
 use Rattle.protocol.specs.Types.{ViewNumber, MessageNumber, Entry, View, Phase, Idle, Reading, Writing, Client, Administrator, Ending, Settled, EndSent, Message, Step}
 use Rattle.protocol.specs.Tools.{if, nth, Result, refused, done, guard, passed}
 use Rattle.protocol.specs.Sizes.{clients, views, messages, sized, read_size, write_size}
-use Rattle.protocol.specs.Entries.{entry, empty, chosen}
+use Rattle.protocol.specs.Entries.{empty, chosen}
 use Rattle.protocol.specs.Servers.{READ, WRITE, END, START, ANSWER}
-use Rattle.protocol.specs.Clients.{WRITES, READS, number, is_idle, request_of, begin, give_up, close_size, to_write, given_by, Close, write_next, complete_with, once, close_by, close, is_ending, end_of, call, advance, count_left, keeps_view, restart}
+use Rattle.protocol.specs.Clients.{WRITES, READS, number, is_idle, request_of, begin, give_up, close_size, to_write, given_by, Close, write_next, complete_with, once, close_by, close, is_ending, end_of, call, advance, keeps_view, restart}
 use Rattle.protocol.specs.Worlds.{World, no_client, view, server, client, message, newest, present, room, with_client, with_view, with_message, with_administrator, send, next_number, as_sent}
 use Rattle.protocol.specs.Chains.{enough, shown, agreed}
-use Rattle.protocol.specs.Steps.{After, moved, request, begins, link, open?, taken_with, at_once, closes, starts, takes, take, new_view, gives_up, deliver, fault, lie, fields_fit, write_step, read_step, deliver_step, take_step, fault_step, false_step, view_step, give_up_step, row_of, view_asked, step, emptied, planned, restarts, restart_step}
-use Rattle.protocol.proofs.Laws.Tests.{and_left, and_right, or_cases, clash, within_true, went}
+use Rattle.protocol.specs.Steps.{After, moved, request, begins, link, open?, taken_with, at_once, closes, starts, takes, take, new_view, gives_up, fields_fit, write_step, read_step, deliver_step, take_step, fault_step, false_step, view_step, give_up_step, row_of, view_asked, step, emptied, planned, restarts, restart_step}
+use Rattle.protocol.proofs.Laws.Tests.{and_left, and_right, or_cases, clash, went}
 use Rattle.protocol.proofs.Laws.Sizes.{covered}
 use Rattle.protocol.proofs.Laws.Worlds.{content, sent, sent_link, client_same, client_other, view_same, view_other, length_replace, sent_as}
-use Rattle.protocol.proofs.Laws.Change.{Votes, To, Chosen, Started, Closed, Kept, Agreed, Acted, same, exchanged, began, wrote, ended, gave_up, New, none as unsent}
+use Rattle.protocol.proofs.Laws.Change.{Votes, To, Chosen, Started, Closed, Kept, Agreed, Acted, same, exchanged, began, wrote, ended, gave_up, none as unsent}
 use Rattle.protocol.proofs.Laws.Sound.{Sized, Sound, mail_same, mail_link, sized_same, sound_send, Taking, close_votes, close_agreed, close_chosen, link_count, mail_as}
 use Rattle.protocol.proofs.Laws.Kinds.{IsClient, client_of_lem, server_of_lem, by_kind}
-use Rattle.protocol.proofs.Laws.Moves.{done_is, apart, is_done, grew_refl, Post, post, posted, quiet, idle_acted, room_left, present_is, Lawful, fault_lawful, deliver_lawful, lie_lawful}
+use Rattle.protocol.proofs.Laws.Moves.{done_is, apart, is_done, grew_refl, Post, post, quiet, idle_acted, room_left, present_is, Lawful, fault_lawful, deliver_lawful, lie_lawful}
 
 idle_is : (p : Phase) → is_idle p ≡ true → p ≡ Idle
 idle_is Idle e = refl
