@@ -6,5 +6,4 @@ pub mod Ways
 pub mod Lists
 pub mod Same
 pub mod Along
-pub mod Examples
 pub mod Refusals
