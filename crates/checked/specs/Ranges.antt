@@ -4,7 +4,6 @@ use Rattle.std.proofs.Common.{arith, leb-true, ltb-true, eqb-true}
 use Rattle.checked.specs.Types.{Server, Phase, Idle, Reading, Writing, Client, Ending, Settled, EndSent, Administrator, Message}
 use Rattle.protocol.specs.Tools.{if, within, both}
 use Rattle.protocol.specs.Sizes.{views, messages}
-use Rattle.protocol.specs.Entries.{entry_fits}
 use Rattle.protocol.specs.Servers.{READ, WRITE, ANSWER}
 use Rattle.protocol.specs.Clients.{is_ending}
 use Rattle.protocol.specs.Readable.{sender_fits, client_range}

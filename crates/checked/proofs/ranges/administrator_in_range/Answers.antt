@@ -1,14 +1,13 @@
 use Rattle.protocol.proofs.Laws.Tests.{passed_test, is_true}
 use mathlib.Core.Path.{sym, ◌∙◌}
 use borrow.Author.Rules.{rules}
-use borrow.Author.Tests.{not-true}
 use Rattle.protocol.specs.Tools.{pass}
 use Rattle.checked.specs.Ranges.{administrator_in_range}
 use Rattle.checked.proofs.ranges.administrator_in_range.Goals as goal
 
 pub returns-then-not-known : goal.returns-then-not-known
 unfolding administrator_in_range
-returns-then-not-known c = rw (sym c.view_within-known.ensures ∙ c.if-not-known.true)
+returns-then-not-known c = search (sym c.view_within-known.ensures ∙ c.if-not-known.true, rules)
 
 pub returns : goal.returns
 unfolding administrator_in_range

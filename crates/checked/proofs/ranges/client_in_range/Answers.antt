@@ -1,6 +1,4 @@
 use mathlib.Core.Path.{sym, ◌∙◌}
-use borrow.Author.Rules.{rules}
-use borrow.Author.Tests.{not-true, not-false}
 use Rattle.protocol.specs.Tools.{pass}
 use Rattle.checked.specs.Ranges.{client_in_range}
 use Rattle.checked.proofs.ranges.client_in_range.Goals as goal
