@@ -54,7 +54,7 @@ showing_mono p q l h =
     (λ s _ _ t.
     let f = some_found (shows_by p l s) (answer_count l) t in
     some_at (shows_by q l s) (answer_count l) f.at f.low f.high
-    (and_both (eqb (answerer l f.at) s) _ (and_left _ _ f.passes) (h (entry_shown l f.at) (and_right (eqb (answerer l f.at) s) _ f.passes))))
+    (and_both (eqb (answerer l f.at) s) _ (and_left (eqb (answerer l f.at) s) (p (entry_shown l f.at)) f.passes) (h (entry_shown l f.at) (and_right (eqb (answerer l f.at) s) _ f.passes))))
 
 -- what is against an entry is against every one that does not outrank it
 carried : (l : List ℕ) (c : ℕ) (f e : Entry) → outranks f e ≡ false → dropped l c e ≡ true → dropped l c f ≡ true

@@ -7,7 +7,7 @@ use Rattle.checked.proofs.ranges.administrator_in_range.Goals as goal
 
 pub returns-then-not-known : goal.returns-then-not-known
 unfolding administrator_in_range
-returns-then-not-known c = rw (sym c.view_within-known.ensures ∙ c.if-not-known.true)
+returns-then-not-known c = search (sym c.view_within-known.ensures ∙ c.if-not-known.true, rules)
 
 pub returns : goal.returns
 unfolding administrator_in_range
