@@ -2,4 +2,3 @@ pub mod Replays
 pub mod Rests
 pub mod Watch
 pub mod Watches
-pub mod Examples

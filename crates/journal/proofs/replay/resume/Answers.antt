@@ -1,7 +1,6 @@
 use Rattle.image.specs.Steps.{Played}
 use Rattle.journal.specs.Replays.{Plays, rest_none, rest_lent}
 use mathlib.Core.Path.{subst}
-use borrow.Author.Rules.{rules}
 use Rattle.journal.proofs.replay.resume.Goals as goal
 
 pub returns-then-journal-steps : goal.returns-then-journal-steps

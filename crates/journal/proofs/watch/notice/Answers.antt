@@ -1,5 +1,5 @@
 use borrow.Author.Rules.{rules}
-use Rattle.journal.specs.Watches.{legible_readable}
+use Rattle.journal.proofs.Watches.{legible_readable}
 use Rattle.journal.proofs.watch.notice.Goals as goal
 
 pub premise_holds-requires : goal.premise_holds-requires

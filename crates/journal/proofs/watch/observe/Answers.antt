@@ -1,5 +1,5 @@
 use Rattle.journal.specs.Replays.{going_on}
-use Rattle.journal.specs.Watches.{watching_on, watching_stop, watching_end}
+use Rattle.journal.proofs.Watches.{watching_on, watching_stop, watching_end}
 use Rattle.journal.proofs.watch.observe.Goals as goal
 
 pub returns-in-StepRefused : goal.returns-in-StepRefused

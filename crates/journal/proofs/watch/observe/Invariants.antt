@@ -1,6 +1,6 @@
 use Prim.Native.Nat.{◌-◌}
 use lib.ListN.{length}
-use Rattle.journal.specs.Watches.{Watching}
+use Rattle.journal.proofs.Watches.{Watching}
 use Rattle.journal.proofs.watch.observe.Given as goal
 
 abbrev pub invariant-loop-at : goal.invariant-loop-at

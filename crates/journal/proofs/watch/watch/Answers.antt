@@ -3,7 +3,8 @@ use borrow.Author.Tests.{not-true, not-false}
 use Rattle.readable.specs.Readable.{read}
 use Rattle.journal.specs.Replays.{legible}
 use Rattle.journal.specs.Watch.{Watched}
-use Rattle.journal.specs.Watches.{Watches, unwatched_image, unwatched_journal, unwatched, whole_watch}
+use Rattle.journal.specs.Watches.{Watches}
+use Rattle.journal.proofs.Watches.{unwatched_image, unwatched_journal, unwatched, whole_watch}
 use Rattle.journal.proofs.watch.watch.Goals as goal
 
 pub returns-then-image-ne-IMAGE : goal.returns-then-image-ne-IMAGE

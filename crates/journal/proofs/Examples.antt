@@ -1,6 +1,5 @@
 -- Watched replays computed on the definitions: they are about something. Assumes nothing.
 use Rattle.std.specs.Prelude.{ℕ, ◌≡◌, refl, List, [], ◌∷◌, ◌++◌}
-use Rattle.protocol.specs.Worlds.{World}
 use Rattle.protocol.proofs.Sessions.{begun, run_of, premise_after, read, deliver_to, take_one, fault_of, new_view_lem}
 use Rattle.journal.specs.Watch.{broken_from}
 

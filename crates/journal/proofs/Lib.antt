@@ -1,0 +1,2 @@
+pub mod Watches
+pub mod Examples
