@@ -1,7 +1,7 @@
 -- What the functions of shorten/src are handed and hand back. `Begins`: a view that obeys the size rule; `started`, `fresh_begins`,
 -- `fresh_refused` and `fresh_stays`: what `fresh` did; `replay_stops` and `replay_on_lem`: the replay of two parts, one after the other.
 -- Used by Trials.antt and Ends.antt. Assumes nothing.
-use Rattle.std.specs.Prelude.{ℕ, suc, ◌+◌, ◌≤◌, ◌<◌, Bool, List, [], ◌∷◌, ◌++◌, length}
+use Rattle.std.specs.Prelude.{ℕ, suc, ◌≤◌, ◌<◌, Bool, List, [], ◌∷◌, ◌++◌, length}
 use Rattle.std.proofs.Common.{arith, sym, ◌∙◌, eq-eqb}
 use Rattle.std.proofs.Math.Bool.{true, false}
 use Rattle.std.proofs.Math.Path.{◌≡◌, refl, ap}

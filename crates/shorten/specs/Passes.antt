@@ -1,7 +1,7 @@
 -- Dropping the elements of a list one at a time, from the last to the first, where a test of the rest holds: `one_pass`; and
 -- `passes`, again until a pass drops nothing. What they come to is in Minimal.antt, and how the loops of the code go on by them in
 -- Trials.antt. Used by Journals.antt. Assumes nothing.
-use Rattle.std.specs.Prelude.{ℕ, zero, suc, ◌+◌, Bool, List, ◌++◌, length, take, drop, ltb}
+use Rattle.std.specs.Prelude.{ℕ, zero, suc, Bool, List, ◌++◌, length, take, drop, ltb}
 use Rattle.protocol.specs.Tools.{if}
 
 -- the list without its element at place i, counted from 0

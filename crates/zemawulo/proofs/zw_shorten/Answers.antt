@@ -1,7 +1,7 @@
 use mathlib.Core.Path.{sym, ap, ◌∙◌}
 use native.Mathlib.Omega.{arith}
 use Rattle.shorten.specs.Lent.{shortens}
-use Rattle.shorten.specs.Promise.{short_journal_lem}
+use Rattle.shorten.proofs.Promise.{short_journal_lem}
 use Rattle.zemawulo.proofs.zw_shorten.Goals as goal
 
 pub overflow_mul-result : goal.overflow_mul-result

@@ -1,10 +1,9 @@
 use mathlib.Core.Path.{◌≡◌}
 use lib.ListN.{length}
-use borrow.Author.Rules.{rules}
 use Rattle.protocol.specs.Worlds.{fresh_world}
 use Rattle.codec.specs.Layout.{image_size}
 use Rattle.shorten.specs.Journals.{stops_with}
-use Rattle.shorten.specs.Trials.{Passing, passing_start, passing_next, passing_end}
+use Rattle.shorten.specs.Trials.{Passing}
 use Rattle.shorten.proofs.shorten.passes.Given as goal
 
 abbrev pub invariant-loop-left : goal.invariant-loop-left

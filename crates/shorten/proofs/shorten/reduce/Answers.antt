@@ -1,6 +1,6 @@
 use borrow.Author.Rules.{rules}
 use Rattle.shorten.specs.Trials.{begun_legible, begun_size}
-use Rattle.shorten.specs.Ends.{copied_held, none_left, some_left}
+use Rattle.shorten.proofs.Ends.{copied_held, none_left, some_left}
 use Rattle.shorten.proofs.shorten.reduce.Goals as goal
 
 pub play-whole-requires : goal.play-whole-requires

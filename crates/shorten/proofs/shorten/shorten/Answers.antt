@@ -1,5 +1,5 @@
 use borrow.Author.Rules.{rules}
-use Rattle.shorten.specs.Ends.{lent_whole, lent_same, lent_begins, lent_fresh, lent_wrong, not_fresh, from_fresh}
+use Rattle.shorten.proofs.Ends.{lent_whole, lent_same, lent_begins, lent_fresh, lent_wrong, not_fresh, from_fresh}
 use Rattle.shorten.proofs.shorten.shorten.Goals as goal
 
 pub returns-then-not-lent_well : goal.returns-then-not-lent_well
