@@ -25,7 +25,7 @@ use Rattle.preservation.proofs.Kept.{untaken}
 use Rattle.values.specs.Tallies.{first_answer}
 use Rattle.codec.specs.Layout.{entry_width}
 use Rattle.codec.specs.Lists.{flat}
-use Rattle.phases.specs.declared.records.Head.{Head}
+use Rattle.phases.specs.declared.phase_record.Head.{Head}
 use Rattle.phases.specs.Layout.{phase_width}
 use Rattle.phases.specs.Records.{head, head_bytes, tally_bytes}
 use Rattle.phases.specs.Rules.{count_answer}

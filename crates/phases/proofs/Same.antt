@@ -46,7 +46,7 @@ use Rattle.checked.specs.Rules.{take_rule}
 use Rattle.checked.specs.Ranges.{number_fits, message_in_range}
 use Rattle.codec.specs.Lists.{part, put, flat, length_flat, part_number, put_number, length_replace, length_list_to, nth_list_to, list_to_nth}
 use Rattle.protocol.specs.Worlds.{list_to}
-use Rattle.phases.specs.declared.records.Head.{Head}
+use Rattle.phases.specs.declared.phase_record.Head.{Head}
 use Rattle.phases.specs.Layout.{head_width, tally_width, tally_place, tallies_width, phase_width, asked_width}
 use Rattle.phases.specs.Records.{head_of, head_bytes, head_at, ended_fits, open_fits, head_fits, length_head_bytes}
 use Rattle.phases.specs.Records.{tally_read, tally_bytes, tally_plain, tally_rule, tally_at, put_tally, plain_at, tally_fits, length_tally_bytes}

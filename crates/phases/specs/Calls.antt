@@ -13,7 +13,7 @@ use Rattle.checked.specs.Rules.{take_rule}
 use Rattle.codec.specs.Layout.{entry_width, view_width, message_width}
 use Rattle.codec.specs.Lists.{part, put}
 use Rattle.codec.specs.Records.{entry_bytes, view_of, view_plain, message_of, message_plain}
-use Rattle.phases.specs.declared.records.Head.{Head}
+use Rattle.phases.specs.declared.phase_record.Head.{Head}
 use Rattle.phases.specs.declared.call.AnswerGiven.{AnswerGiven}
 use Rattle.phases.specs.declared.call.AnswerGiven.TheVariants.{GivenRefused, StillOpen, PhaseClosed}
 use Rattle.phases.specs.Layout.{head_width, tallies_width, phase_width, asked_width}

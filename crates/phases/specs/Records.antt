@@ -13,7 +13,7 @@ use Rattle.codec.specs.Layout.{entry_width}
 use Rattle.codec.specs.Lists.{part, put}
 use Rattle.codec.specs.Bytes.{le16, le32, zeros}
 use Rattle.codec.specs.Records.{entry_of, entry_bytes, entry_plain}
-use Rattle.phases.specs.declared.records.Head.{Head}
+use Rattle.phases.specs.declared.phase_record.Head.{Head}
 use Rattle.phases.specs.Layout.{head_kind_place, head_view_place, head_request_place, head_width, heard_place, best_place, differ_place, tally_spare_place, tally_spare, tally_width, tally_place}
 
 -- a head of a kind, a view and a request

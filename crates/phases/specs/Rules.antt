@@ -13,7 +13,7 @@ use Rattle.protocol.specs.Entries.{larger}
 use Rattle.protocol.specs.Servers.{READ, END}
 use Rattle.values.specs.Bits.{bit_in}
 use Rattle.values.specs.Tallies.{first_answer, still_one, closes_at}
-use Rattle.phases.specs.declared.records.Head.{Head}
+use Rattle.phases.specs.declared.phase_record.Head.{Head}
 
 -- one newer answer more: "the largest stamp among those of view t is chosen (equal stamps: the one taken first)", which is the one
 -- there; "different servers": a server heard before is heard; "all its taken answers of the chosen view carry one entry"

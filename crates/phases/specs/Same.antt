@@ -16,7 +16,7 @@ use Rattle.protocol.specs.Steps.{After, moved, link, taken_with, closes, starts,
 use Rattle.codec.specs.Records.{view_bytes, message_bytes}
 use Rattle.codec.specs.Lists.{flat}
 use Rattle.protocol.specs.Worlds.{list_to}
-use Rattle.phases.specs.declared.records.Head.{Head}
+use Rattle.phases.specs.declared.phase_record.Head.{Head}
 use Rattle.phases.specs.Records.{head, head_bytes}
 use Rattle.phases.specs.Records.{tally_bytes}
 use Rattle.phases.specs.Rules.{record_closes}

@@ -27,7 +27,7 @@ use Rattle.codec.specs.Layout.{entry_width}
 use Rattle.codec.specs.Lists.{put, put_left, put_all, wrote_none, wrote}
 use Rattle.codec.specs.Bytes.{le16, le32}
 use Rattle.codec.specs.Records.{entry_bytes, length_entry_bytes}
-use Rattle.phases.specs.declared.records.Head.{Head}
+use Rattle.phases.specs.declared.phase_record.Head.{Head}
 use Rattle.phases.specs.declared.call.AnswerGiven.{AnswerGiven}
 use Rattle.phases.specs.declared.call.AnswerGiven.TheVariants.{GivenRefused, StillOpen, PhaseClosed}
 use Rattle.phases.specs.Layout.{head_view_place, head_request_place, head_width, heard_place, best_place, differ_place, tally_spare_place, tally_spare, tally_width, tallies_width, phase_width, asked_width}

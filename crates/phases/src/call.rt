@@ -8,7 +8,7 @@ ghost use Rattle.phases.specs.Layout.{phase_width, asked_width};
 ghost use Rattle.phases.specs.Calls.{open_on, Opens, lent_fit, asked_plain, asked_message, asked_view, records_fit, may_take, Counted, Takes, taking, Writes, answer_by, answer_on, Answers};
 
 use super::layout::{ASKED, HEAD, PHASE};
-use super::records::{
+use super::phase_record::{
     Head, head_fits, load_head, load_tally, open_fits, store_head, store_tally, tally_fits,
 };
 use super::rules::{count_answer, record_closes};

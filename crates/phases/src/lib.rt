@@ -4,5 +4,5 @@
 
 pub mod call;
 mod layout;
-mod records;
+mod phase_record;
 mod rules;

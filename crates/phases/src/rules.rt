@@ -3,7 +3,7 @@ ghost use Rattle.std.specs.Prelude.{◌≡◌};
 ghost use Rattle.protocol.specs.Clients.{taken};
 ghost use Rattle.phases.specs.Rules.{newer, count_answer, size_by, counts, may_end, record_closes};
 
-use super::records::Head;
+use super::phase_record::Head;
 use protocol::kinds::{END, READ};
 use protocol::{Choice, Message, ServerNumber, Taken, View, ViewNumber};
 use values::tally::Tally;

@@ -1,6 +1,6 @@
 use Rattle.phases.specs.Ways.{open_low, open_high, open_view, open_number}
 use borrow.Author.Rules.{rules}
-use Rattle.phases.proofs.records.open_fits.Goals as goal
+use Rattle.phases.proofs.phase_record.open_fits.Goals as goal
 
 pub returns-then-h-lt-READ : goal.returns-then-h-lt-READ
 returns-then-h-lt-READ c = search (open_low, rules) depth 7 fits 4000

@@ -1,5 +1,5 @@
 use Rattle.phases.specs.Records.{put_tally}
-use Rattle.phases.proofs.records.store_tally.Goals as goal
+use Rattle.phases.proofs.phase_record.store_tally.Goals as goal
 
 pub returns : goal.returns
 unfolding put_tally

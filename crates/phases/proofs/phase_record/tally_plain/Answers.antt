@@ -2,7 +2,7 @@ use Rattle.phases.specs.Ways.{bound_stop, bound_on, row_stop, row_on}
 use Rattle.phases.specs.Records.{tally_plain}
 use Rattle.codec.specs.Lists.{part}
 use borrow.Author.Rules.{rules}
-use Rattle.phases.proofs.records.tally_plain.Goals as goal
+use Rattle.phases.proofs.phase_record.tally_plain.Goals as goal
 
 pub returns-then-b-gt1 : goal.returns-then-b-gt1
 unfolding tally_plain part

@@ -1,6 +1,6 @@
 use Rattle.phases.specs.Ways.{tally_none, tally_spare_lem, tally_ruled}
 use borrow.Author.Rules.{rules}
-use Rattle.phases.proofs.records.tally_fits.Goals as goal
+use Rattle.phases.proofs.phase_record.tally_fits.Goals as goal
 
 pub returns-then-t-eq0 : goal.returns-then-t-eq0
 returns-then-t-eq0 c = search (tally_none, rules) depth 7 fits 4000

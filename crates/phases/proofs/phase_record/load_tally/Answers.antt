@@ -2,7 +2,7 @@ use Rattle.phases.specs.Records.{tally_at, tally_read}
 use Rattle.phases.specs.Layout.{tally_place, tally_width}
 use Rattle.codec.specs.Lists.{span}
 use mathlib.Core.Path.{ap, ◌∙◌}
-use Rattle.phases.proofs.records.load_tally.Goals as goal
+use Rattle.phases.proofs.phase_record.load_tally.Goals as goal
 
 pub returns : goal.returns
 unfolding tally_at

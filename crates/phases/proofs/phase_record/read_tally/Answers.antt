@@ -1,6 +1,6 @@
 use Rattle.phases.specs.Records.{tally_read}
 use Rattle.codec.specs.Lists.{part}
-use Rattle.phases.proofs.records.read_tally.Goals as goal
+use Rattle.phases.proofs.phase_record.read_tally.Goals as goal
 
 pub returns : goal.returns
 unfolding tally_read part

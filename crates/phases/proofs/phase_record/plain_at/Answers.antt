@@ -2,7 +2,7 @@ use Rattle.phases.specs.Records.{tally_plain, plain_at}
 use Rattle.phases.specs.Layout.{tally_place, tally_width}
 use Rattle.codec.specs.Lists.{span}
 use mathlib.Core.Path.{ap, ◌∙◌}
-use Rattle.phases.proofs.records.plain_at.Goals as goal
+use Rattle.phases.proofs.phase_record.plain_at.Goals as goal
 
 pub returns : goal.returns
 unfolding plain_at

@@ -1,7 +1,7 @@
 use Rattle.phases.specs.Ways.{row_stop, row_on}
 use Rattle.phases.specs.Records.{tally_rule}
 use borrow.Author.Rules.{rules}
-use Rattle.phases.proofs.records.tally_rule.Goals as goal
+use Rattle.phases.proofs.phase_record.tally_rule.Goals as goal
 
 pub returns-then-not-entry_fits : goal.returns-then-not-entry_fits
 unfolding tally_rule
