@@ -76,7 +76,7 @@ fn completed(image: &[u8], c: u8, out: &mut [u8]) -> usize
 // One step on a readable image, which stays readable, and the line of the operation that it completed.
 pub fn turn(image: &mut [u8], bytes: &[u8], out: &mut [u8]) -> Moved
     requires { Legible image.old × (line_width ≤ length out.old) }
-    ensures result_value { (turned result ≡ measured (step_on image.old bytes.now))
+    ensures answer { (turned result ≡ measured (step_on image.old bytes.now))
         × (image.new ≡ left_by image.old (step_on image.old bytes.now))
         × (out.new ≡ put out.old 0 (line_after (step_on image.old bytes.now))) }
     ensures legible { Legible image.new }

@@ -1,12 +1,13 @@
 // Bytes from a reader and to a writer, as the programs take and print them.
 #![tactic(auto)]
 
-ghost use Rattle.std.specs.Prelude.{◌≡◌, ◌≤◌, length, take, true};
+ghost use Rattle.std.specs.Prelude.{ℕ, ◌≡◌, ◌≤◌, length, take, true};
 ghost use Rattle.std.specs.Io.KnownBytes.{Consumes, Appends};
 
 use std::io::{Read, Write};
 
-// Reads until a buffer is full, the input ends or a read fails, and returns the number of bytes read, which stand at its start.
+// Reads until a buffer is full, the input ends or a read fails, and returns the number of bytes read, which stand at its start. Nothing
+// is said of the bytes behind them.
 pub fn read_full<R: Read>(input: &mut R, buffer: &mut [u8]) -> usize
     ensures bound { result ≤ length buffer.new }
     ensures bytes { Consumes (R.remaining input.old) (R.remaining input.new) (take result buffer.new) }
@@ -22,9 +23,10 @@ pub fn read_full<R: Read>(input: &mut R, buffer: &mut [u8]) -> usize
     done
 }
 
-// Writes all bytes, or stops at the first write that takes none or fails; then some may be written. Returns whether all are.
+// Writes all bytes, or stops at the first write that takes none or fails; then the first of them may be written. Returns whether all are.
 pub fn write_all<W: Write>(output: &mut W, bytes: &[u8]) -> bool
-    ensures { result ≡ true → Appends (W.contents output.old) (W.contents output.new) bytes.now }
+    ensures all { result ≡ true → Appends (W.contents output.old) (W.contents output.new) bytes.now }
+    ensures part { (n : ℕ) × (n ≤ length bytes.now) × Appends (W.contents output.old) (W.contents output.new) (take n bytes.now) }
 {
     let mut done = 0usize;
     while done < bytes.len() {

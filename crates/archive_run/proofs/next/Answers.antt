@@ -6,4 +6,4 @@ pub returns-then-got-eq0 : goal.returns-then-got-eq0
 returns-then-got-eq0 g c = says_end c.args.image.now
 
 pub returns-in-Stopped : goal.returns-in-Stopped
-returns-in-Stopped g c = says_stop _ _ _ _ _ c.in-Stopped.is c.turn-t.ensures.result_value.0 c.turn-t.ensures.result_value.1
+returns-in-Stopped g c = says_stop _ _ _ _ _ c.in-Stopped.is c.turn-t.ensures.answer.0 c.turn-t.ensures.answer.1
