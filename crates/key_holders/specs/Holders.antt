@@ -1,12 +1,12 @@
 -- The bytes that count the faulty key holders of each view, beside the full count (`holders` of codec). `holders_none`: a view whose
 -- key no faulty server holds; `holders_beyond`: so it is with every view beyond the newest; `holders_low`: the count fits a byte.
 -- `holder_ok` is the test of one byte, `premise_bytes` the premise by these bytes. Used by Scan, Fresh and Premise, and by `world`.
-use Rattle.std.specs.Prelude.{◌≡◌, refl, Bool, true, false, ◌&&◌, List, ℕ, zero, suc, ◌+◌, ◌-◌, ◌^◌, ◌≤◌, ◌<◌, replicate, ltb, leb, eqb}
-use Rattle.std.proofs.Common.{sym, ap, ◌∙◌, arith, ltb-true}
+use Rattle.std.specs.Prelude.{◌≡◌, refl, Bool, true, false, ◌&&◌, List, ℕ, ◌^◌, ◌≤◌, ◌<◌, ltb, leb, eqb}
+use Rattle.std.proofs.Common.{sym, ap, arith, ltb-true}
 use Rattle.std.proofs.Math.Bool.{and-false}
 use Rattle.protocol.specs.declared.Administrator.{Administrator}
-use Rattle.protocol.specs.Tools.{count_to, all_to, holds, nth, both}
-use Rattle.protocol.specs.Sizes.{servers, views}
+use Rattle.protocol.specs.Tools.{count_to, both}
+use Rattle.protocol.specs.Sizes.{servers}
 use Rattle.protocol.specs.Entries.{entry_fits}
 use Rattle.protocol.specs.Worlds.{World, server, newest, bad}
 use Rattle.protocol.specs.Readable.{key_rule, server_fits}

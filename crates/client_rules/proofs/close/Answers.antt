@@ -1,4 +1,3 @@
-use borrow.Author.Rules.{rules}
 use Rattle.protocol.specs.Clients.{close}
 use Rattle.client_rules.proofs.close.Goals as goal
 

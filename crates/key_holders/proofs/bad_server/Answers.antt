@@ -1,6 +1,5 @@
 use mathlib.Core.Path.{ap}
 use borrow.Author.Tests.{not-true, not-false}
-use borrow.Author.Rules.{rules}
 use Rattle.protocol.specs.Worlds.{bad}
 use Rattle.codec.specs.Laws.{server_decode}
 use Rattle.protocol.specs.Tools.{bit}

@@ -1,11 +1,8 @@
-use mathlib.Core.Path.{◌≡◌, ap, sym, ◌∙◌}
-use Prim.Native.Nat.{◌+◌, ◌-◌, ◌≤◌}
+use mathlib.Core.Path.{sym, ◌∙◌}
+use Prim.Native.Nat.{◌+◌}
 use native.Mathlib.Omega.{arith}
-use Rattle.protocol.specs.Sizes.{servers}
-use borrow.Author.Rules.{rules}
 use Rattle.protocol.specs.Worlds.{bad}
 use Rattle.codec.specs.Images.{decode}
-use Rattle.protocol.specs.Tools.{count_to}
 use Rattle.protocol.proofs.Laws.Tests.{count_le}
 use Rattle.protocol.proofs.Laws.Loops.{count_start, count_more}
 use Rattle.key_holders.proofs.bad_servers.Goals as goal

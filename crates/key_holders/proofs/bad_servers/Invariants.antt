@@ -1,13 +1,9 @@
-use mathlib.Core.Path.{◌≡◌, ap, sym, ◌∙◌}
-use Prim.Native.Nat.{◌+◌, ◌-◌, ◌≤◌}
-use native.Mathlib.Omega.{arith}
+use mathlib.Core.Path.{◌≡◌}
+use Prim.Native.Nat.{◌-◌, ◌≤◌}
 use Rattle.protocol.specs.Sizes.{servers}
-use borrow.Author.Rules.{rules}
 use Rattle.protocol.specs.Worlds.{bad}
 use Rattle.codec.specs.Images.{decode}
 use Rattle.protocol.specs.Tools.{count_to}
-use Rattle.protocol.proofs.Laws.Tests.{count_le}
-use Rattle.protocol.proofs.Laws.Loops.{count_start, count_more}
 use Rattle.key_holders.proofs.bad_servers.Given as goal
 
 abbrev pub invariant-loop-k : goal.invariant-loop-k

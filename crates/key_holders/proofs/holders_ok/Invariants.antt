@@ -1,13 +1,9 @@
-use mathlib.Core.Path.{◌≡◌, ap, sym, ◌∙◌}
+use mathlib.Core.Path.{◌≡◌}
 use mathlib.Core.Bool.{true}
-use Prim.Native.Nat.{◌+◌, ◌-◌, ◌≤◌}
-use native.Mathlib.Omega.{arith}
+use Prim.Native.Nat.{◌-◌, ◌≤◌}
 use Rattle.protocol.specs.Sizes.{views}
-use borrow.Author.Tests.{not-true, not-false}
-use borrow.Author.Rules.{rules}
 use Rattle.key_holders.specs.Holders.{holder_ok}
 use Rattle.protocol.specs.Tools.{all_to}
-use Rattle.protocol.proofs.Laws.Loops.{all_start, all_more, all_fails}
 use Rattle.key_holders.proofs.holders_ok.Given as goal
 
 abbrev pub invariant-loop-k : goal.invariant-loop-k

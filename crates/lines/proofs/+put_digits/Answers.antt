@@ -1,6 +1,5 @@
-use Prim.Native.Nat.{ℕ, ◌-◌, ◌/◌, ◌<◌}
+use Prim.Native.Nat.{◌-◌, ◌/◌}
 use native.Mathlib.Omega.{arith}
-use borrow.Author.Rules.{rules}
 use Rattle.lines.specs.Lines.{length_digits, digits_none, digits_last, digits_more}
 use Rattle.lines.proofs.+put_digits.Goals as goal
 

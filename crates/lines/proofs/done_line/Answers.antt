@@ -1,6 +1,5 @@
 use mathlib.Core.Path.{refl}
 use native.Mathlib.Omega.{arith}
-use borrow.Author.Rules.{rules}
 use Rattle.lines.specs.Lines.{done_line, length_number, begun, grown}
 use Rattle.lines.proofs.done_line.Goals as goal
 

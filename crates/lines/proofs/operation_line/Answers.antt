@@ -2,7 +2,6 @@ use mathlib.Core.Path.{refl}
 use mathlib.Core.List.{[], ◌∷◌}
 use Prim.Native.Nat.{◌+◌}
 use native.Mathlib.Omega.{arith}
-use borrow.Author.Rules.{rules}
 use Rattle.protocol.specs.Entries.{count_of, writer_of}
 use Rattle.lines.specs.Lines.{letter_of, operation_line, length_number, begun, grown, letter_put}
 use Rattle.lines.proofs.operation_line.Goals as goal

@@ -1,5 +1,4 @@
 use native.Mathlib.Omega.{arith}
-use borrow.Author.Rules.{rules}
 use Rattle.lines.specs.Lines.{most_digits, length_digits, number_put}
 use Rattle.lines.proofs.put_number.Goals as goal
 

@@ -1,9 +1,9 @@
 use Rattle.protocol.proofs.Laws.Tests.{passed_test, and_both}
-use mathlib.Core.Path.{sym, ap, ◌∙◌}
+use mathlib.Core.Path.{sym, ◌∙◌}
 use borrow.Author.Rules.{rules}
-use borrow.Author.Tests.{le-leb, lt-leb, eq-eqb, ne_eqb, not-true, not-false}
-use Rattle.protocol.specs.Tools.{Result, guard, number_of}
-use Rattle.protocol.specs.Servers.{Reply, serve}
+use borrow.Author.Tests.{le-leb, lt-leb, eq-eqb, ne_eqb, not-true}
+use Rattle.protocol.specs.Tools.{guard}
+use Rattle.protocol.specs.Servers.{serve}
 use Rattle.server_rules.specs.Servers.{serve_in, serves}
 use Rattle.server_rules.proofs.refuses.Goals as goal
 

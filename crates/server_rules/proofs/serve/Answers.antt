@@ -1,7 +1,6 @@
 use mathlib.Core.Path.{sym, ◌∙◌}
-use borrow.Author.Rules.{rules}
 use borrow.Author.Tests.{eq-eqb, ne_eqb}
-use Rattle.server_rules.specs.Servers.{refused_by, serve_done}
+use Rattle.server_rules.specs.Servers.{serve_done}
 use Rattle.server_rules.proofs.serve.Goals as goal
 
 pub returns-then-m-eq-START : goal.returns-then-m-eq-START

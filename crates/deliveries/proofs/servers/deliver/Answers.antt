@@ -1,6 +1,6 @@
 use Rattle.protocol.proofs.Laws.Tests.{passed_test, failed_test, is_false}
 use mathlib.Core.Path.{sym, ◌∙◌}
-use borrow.Author.Tests.{not-true, not-false}
+use borrow.Author.Tests.{not-false}
 use Rattle.mail.specs.Stored.{by}
 use Rattle.deliveries.specs.Delivers.{sent_low, tag_low, absent, deliver_no, deliver_kept, deliver_correct, deliver_answers}
 use borrow.Author.Rules.{rules}

@@ -4,7 +4,6 @@ use Rattle.protocol.specs.Steps.{step}
 use Rattle.codec.specs.Images.{decode}
 use Rattle.mail.specs.Stored.{by}
 use Rattle.world.specs.Performs.{unfit, fit}
-use borrow.Author.Rules.{rules}
 use Rattle.world.proofs.step.advance.Goals as goal
 
 pub returns-then-not-fits : goal.returns-then-not-fits

@@ -4,7 +4,6 @@ use Rattle.protocol.specs.Steps.{row_of, new_view, restarts}
 use Rattle.protocol.proofs.Laws.Kinds.{client_of_lem as who_client, server_of_lem as who_server, source_of, kind_last}
 use Rattle.mail.specs.Stored.{by}
 use Rattle.world.specs.Performs.{as_write, as_read, as_deliver, as_take, as_fault, as_false, as_view, as_give_up, as_restart}
-use borrow.Author.Rules.{rules}
 use Rattle.world.proofs.step.perform.Goals as goal
 
 pub begins-requires : goal.begins-requires

@@ -2,7 +2,6 @@ use mathlib.Core.Path.{sym, ◌∙◌}
 use borrow.Author.Tests.{not-true, not-false}
 use Rattle.mail.specs.Stored.{by}
 use Rattle.world.specs.Performs.{legible, wrong_image, wrong_step, unreadable, whole_step}
-use borrow.Author.Rules.{rules}
 use Rattle.world.proofs.step.step.Goals as goal
 
 pub returns-then-image-ne-IMAGE : goal.returns-then-image-ne-IMAGE
