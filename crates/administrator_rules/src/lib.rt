@@ -2,89 +2,56 @@
 #![tactic(auto)]
 
 ghost use Rattle.std.specs.Prelude.{◌≡◌};
-ghost use Rattle.protocol.specs.Clients.{is_ending, end_of, call, restart, called};
+ghost use Rattle.protocol.specs.Refusals.{outcome};
+ghost use Rattle.protocol.specs.Clients.{call, restart};
 ghost use Rattle.administrator_rules.specs.Advances.{advance_in};
 
 use protocol::limits::VIEWS;
-use protocol::refusals::{BUSY, NOT_APPLICABLE, UNFIT, WRONG_SIZE};
-use protocol::{Administrator, Called, Ending, MessageNumber, View, ViewNumber};
+use protocol::{Administrator, MessageNumber, Refusal, ServerSet, View, ViewNumber};
 use values::sizes;
 
-// Whether the newest view is being ended.
-pub fn is_ending(e: Ending) -> bool
-    ensures { result ≡ is_ending e }
-{
-    match e {
-        Ending::Settled => false,
-        Ending::EndSent(_) => true,
-    }
-}
-
-// The END number; 0 unless ending.
-pub fn end_of(e: Ending) -> MessageNumber
-    ensures { result.0 ≡ end_of e }
-{
-    match e {
-        Ending::Settled => MessageNumber(0),
-        Ending::EndSent(r) => r,
-    }
-}
-
 // A new view is called: END of the newest is sent, number n. 4, ending; 8, size rule broken or newest is 32.
-pub fn call(a: Administrator, v: View, n: MessageNumber) -> Called
-    ensures { called result ≡ call a v n.0 }
+#[tactic(auto, unfolding(protocol::specs::Clients::call, protocol::specs::Tools::guard))]
+pub fn call(a: Administrator, v: View, n: MessageNumber) -> Result<Administrator, Refusal>
+    ensures { outcome result ≡ call a v n.0 }
 {
-    let newest = a.newest;
-    let ending = a.ending;
-    let busy = is_ending(ending);
-    if busy {
-        return Called::CallRefused(BUSY);
+    if a.ending.is_some() {
+        return Err(Refusal::Busy);
     }
-    let fits = sizes::sized(v);
-    if !fits {
-        return Called::CallRefused(WRONG_SIZE);
+    if !sizes::sized(v) || a.newest.0 >= VIEWS {
+        return Err(Refusal::WrongSize);
     }
-    if VIEWS <= newest.0 {
-        return Called::CallRefused(WRONG_SIZE);
-    }
-    Called::Calling(Administrator {
-        newest: newest,
-        ending: Ending::EndSent(n),
+    Ok(Administrator {
+        ending: Some(n),
+        ..a
     })
 }
 
 // It restarted, and its record stays as it is; v is the new pending view, or has no members. 7, nothing is being ended; 8, size
 // rule broken.
-pub fn restart(a: Administrator, v: View) -> Called
-    ensures { called result ≡ restart a v }
+#[tactic(auto, unfolding(protocol::specs::Clients::restart, protocol::specs::Tools::guard))]
+pub fn restart(a: Administrator, v: View) -> Result<Administrator, Refusal>
+    ensures { outcome result ≡ restart a v }
 {
-    let ending = a.ending;
-    let members = v.members;
-    let busy = is_ending(ending);
-    if !busy {
-        return Called::CallRefused(NOT_APPLICABLE);
+    if a.ending.is_none() {
+        return Err(Refusal::NotApplicable);
     }
-    if members.0 == 0 {
-        return Called::Calling(a);
+    if v.members != ServerSet(0) && !sizes::sized(v) {
+        return Err(Refusal::WrongSize);
     }
-    let obeys = sizes::sized(v);
-    if !obeys {
-        return Called::CallRefused(WRONG_SIZE);
-    }
-    Called::Calling(a)
+    Ok(a)
 }
 
 // END closes: the next view becomes the newest. 3, there is no view after it.
-pub fn advance(a: Administrator) -> Called
-    ensures { called result ≡ advance_in a }
+#[tactic(auto, unfolding(crate::specs::Advances::advance_in, protocol::specs::Clients::advance, protocol::specs::Tools::guard))]
+pub fn advance(a: Administrator) -> Result<Administrator, Refusal>
+    ensures { outcome result ≡ advance_in a }
 {
-    let newest = a.newest;
-    if VIEWS <= newest.0 {
-        return Called::CallRefused(UNFIT);
+    if a.newest.0 >= VIEWS {
+        return Err(Refusal::Unfit);
     }
-    let next = ViewNumber(newest.0 + 1);
-    Called::Calling(Administrator {
-        newest: next,
-        ending: Ending::Settled,
+    Ok(Administrator {
+        newest: ViewNumber(a.newest.0 + 1),
+        ending: None,
     })
 }

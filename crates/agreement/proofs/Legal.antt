@@ -1,7 +1,6 @@
 -- A list of operations in the order of their keys: each read returns the last write before it. Assumes nothing.
 use Rattle.std.proofs.Common.{arith, sym, ap, ◌∙◌, inl, inr}
-use Rattle.std.specs.Prelude.{◌≡◌, refl, ◌⊎◌, List, [], ◌∷◌, map}
-use Rattle.std.proofs.Math.Option.{Option, some}
+use Rattle.std.specs.Prelude.{◌≡◌, refl, ◌⊎◌, List, [], ◌∷◌, map, Option, Some}
 use Rattle.protocol.specs.declared.Entry.{Entry}
 use Rattle.protocol.specs.Clients.{WRITES, READS}
 use Rattle.protocol.specs.Consistent.{Operation, In, here, there, Before, now, later, Reads, end, write, read}
@@ -17,7 +16,7 @@ module _ {A : Type 0} (key : A → Key) (op : A → Operation) where
   -- an element stands for an operation with its kind and entry
   pub record Stand (x : A) : Type 0 where
     pub kind : (op x).kind ≡ (key x).kind
-    pub entry : (op x).entry ≡ some (key x).entry
+    pub entry : (op x).entry ≡ Some (key x).entry
     pub kinds : ((key x).kind ≡ WRITES) ⊎ ((key x).kind ≡ READS)
 
   -- where the entry of a read comes from: e, or a write of the list
@@ -75,16 +74,16 @@ module _ {A : Type 0} (key : A → Key) (op : A → Operation) where
         go (from z (there j) t q) = ≺_not (precedes_≺ (h z j) (omega arith)) (rw q (≼_refl (key x).entry))
 
   -- each read returns the last write before it
-  pub legal : (e : Entry) (l : List A) → Rising Ahead l → Asks e l → Reads (some e) (map op l)
+  pub legal : (e : Entry) (l : List A) → Rising Ahead l → Asks e l → Reads (Some e) (map op l)
   legal e [] s a = end
   legal e (x ∷ l) (next h s) a = go b.kinds (legal (key x).entry l s) (legal e l s)
     where
       b : Stand x
       b = a.stand x (here refl)
 
-      go : ((key x).kind ≡ WRITES) ⊎ ((key x).kind ≡ READS) → (Asks (key x).entry l → Reads (some (key x).entry) (map op l)) → (Asks e l → Reads (some e) (map op l)) → Reads (some e) (op x ∷ map op l)
+      go : ((key x).kind ≡ WRITES) ⊎ ((key x).kind ≡ READS) → (Asks (key x).entry l → Reads (Some (key x).entry) (map op l)) → (Asks e l → Reads (Some e) (map op l)) → Reads (Some e) (op x ∷ map op l)
       go (inl k) f g = let r : Reads (op x).entry (map op l) = rw b.entry (f (after_write h a k)) in write (b.kind ∙ k) r
-      go (inr k) f g = read (b.kind ∙ k) (b.entry ∙ ap some (read_entry h a k)) (g (after_read h a k))
+      go (inr k) f g = read (b.kind ∙ k) (b.entry ∙ ap Some (read_entry h a k)) (g (after_read h a k))
 
 -- ---- two reads with no write between them
 

@@ -1,11 +1,10 @@
 -- The order of a run's operations: those that stand (specs/Order.antt), sorted. Assumes nothing.
-use Rattle.std.specs.Prelude.{ℕ, zero, suc, ◌+◌, ◌≤◌, ◌<◌, Bool, ◌&&◌, ◌≡◌, ◌⊎◌, ◌↔◌, ◌≢◌, List, [], ◌∷◌, map, eqb}
+use Rattle.std.specs.Prelude.{ℕ, zero, suc, ◌+◌, ◌≤◌, ◌<◌, Bool, ◌&&◌, ◌≡◌, ◌⊎◌, ◌↔◌, ◌≢◌, List, [], ◌∷◌, map, eqb, None, Some}
 use Rattle.std.proofs.Math.Decide.{ℕ_discrete}
 use Rattle.std.proofs.Common.{arith, subst, ◌∙◌}
 use Rattle.std.proofs.Math.Bool.{true, false, not}
 use Rattle.std.proofs.Math.Path.{refl, sym, ap}
 use Rattle.std.proofs.Math.Logic.{inl, inr}
-use Rattle.std.proofs.Math.Option.{none, some}
 use Rattle.std.proofs.Math.Dec.{ltb}
 use borrow.Author.Tests.{ltb-true, eqb-true, eq-eqb, ne_eqb, lt-ltb, le-ltb}
 use Rattle.protocol.specs.declared.Entry.{Entry}
@@ -24,7 +23,7 @@ use Rattle.agreement.proofs.Sorting.{filter, in_filter, filter_in, filter_rising
 use Rattle.agreement.specs.Invariants.{Origin, blank, from}
 use Rattle.agreement.specs.Carried.{Trusted, Read}
 use Rattle.agreement.proofs.Carried.{sees}
-use Rattle.agreement.specs.Operations.{Wrote, Own, Fits, Chose, Earlier, Some, Story, shows as entry_at}
+use Rattle.agreement.specs.Operations.{Wrote, Own, Fits, Chose, Earlier, Some as SomeOf, Story, shows as entry_at}
 use Rattle.agreement.proofs.Operations.{shows_done, shows_sent, chose}
 use Rattle.agreement.specs.Precedence.{◌≺◌, count, Key, Precedes, by_stamp, by_kind, by_read}
 use Rattle.agreement.proofs.Precedence.{≺_not, precedes_trans, precedes_self, compared, precedes_≼, precedes_≺}
@@ -184,7 +183,7 @@ module _ {w : World} {place : ℕ} {l : List Tracked} (t : Trusted w) (s : Story
       further l (blank e) = blank e
       further l (from k h i e) = from k (omega arith) i e
 
-      go : ((y : Entry) → Origin w n y → Written y) → Some l (λ o. o.write ≡ k) → 1 ≤ k → Written x
+      go : ((y : Entry) → Origin w n y → Written y) → SomeOf l (λ o. o.write ≡ k) → 1 ≤ k → Written x
       go ih b p = kinds (s.fits b.of b.member).kind
         where
           pos : 1 ≤ b.of.write
@@ -216,11 +215,11 @@ module _ {w : World} {place : ℕ} {l : List Tracked} (t : Trusted w) (s : Story
       go d (inl h) = record { write = k; sent = h }
       go d (inr h) = write_sent s o d.member k h
 
-  entry_of_lem : {o : Tracked} → In o order → entry_of w o ≡ some (shows o)
+  entry_of_lem : {o : Tracked} → In o order → entry_of w o ≡ Some (shows o)
   unfolding stands
   entry_of_lem {o} i = let d = stood i in go d (or_cases _ _ d.test) (ℕ_discrete o.end 0)
     where
-      go : Stood o → (not (unfinished o) ≡ true) ⊎ ((eqb o.kind WRITES && (ltb 0 o.write && returned t s o)) ≡ true) → Dec (o.end ≡ 0) → entry_of w o ≡ some (shows o)
+      go : Stood o → (not (unfinished o) ≡ true) ⊎ ((eqb o.kind WRITES && (ltb 0 o.write && returned t s o)) ≡ true) → Dec (o.end ≡ 0) → entry_of w o ≡ Some (shows o)
       go d (inl e) z = entry_done s o (finished o e)
       go d (inr e) (yes z) = entry_open s o z (eqb-true _ _ (and_left _ _ e)) (ltb-true _ _ (and_left _ _ (and_right (eqb o.kind WRITES) _ e)))
       go d (inr e) (no z) = entry_done s o (omega arith)
@@ -307,7 +306,7 @@ module _ {w : World} {place : ℕ} {l : List Tracked} (t : Trusted w) (s : Story
             held = map_in op l r.member;
             read = op_kind x ∙ eqb-true _ _ (and_left _ _ k);
             completed = rw (op_end x) f;
-            same = op_entry x ∙ entry_done s x f ∙ ap some (same_is _ _ (and_right (eqb x.kind READS) _ k)) ∙ sym (entry_of_lem i) ∙ sym (op_entry o);
+            same = op_entry x ∙ entry_done s x f ∙ ap Some (same_is _ _ (and_right (eqb x.kind READS) _ k)) ∙ sym (entry_of_lem i) ∙ sym (op_entry o);
           })
 
   -- in the history, and standing, so in the order
@@ -315,11 +314,11 @@ module _ {w : World} {place : ℕ} {l : List Tracked} (t : Trusted w) (s : Story
   unfolding stands
   done_stands o h = or_first _ _ (is_finished o h)
 
-  entry_none : (o : Tracked) → o.end ≡ 0 → o.write ≡ 0 → entry_of w o ≡ none
+  entry_none : (o : Tracked) → o.end ≡ 0 → o.write ≡ 0 → entry_of w o ≡ None
   unfolding entry_of
   entry_none o h g = rw (eq-eqb o.end 0 h) (go (eqb o.kind WRITES))
     where
-      go : (b : Bool) → if (b && ltb 0 o.write) (some (message w o.write).entry) none ≡ none
+      go : (b : Bool) → if (b && ltb 0 o.write) (Some (message w o.write).entry) None ≡ None
       go true = rw (le-ltb 0 o.write (omega arith)) refl
       go false = refl
 
@@ -327,7 +326,7 @@ module _ {w : World} {place : ℕ} {l : List Tracked} (t : Trusted w) (s : Story
   in_order o i (completed e) = stand_in i (done_stands o (rw (op_end o) at e))
   in_order o i (surfaced k e r) = let m = in_map op l r.held in go m.of m.member m.is (ℕ_discrete o.write 0)
     where
-      some_is : {a b : Entry} → some a ≡ some b → a ≡ b
+      some_is : {a b : Entry} → Some a ≡ Some b → a ≡ b
       some_is q = cc
 
       go : (x : Tracked) → In x l → op x ≡ r.by → Dec (o.write ≡ 0) → In o order
@@ -336,12 +335,12 @@ module _ {w : World} {place : ℕ} {l : List Tracked} (t : Trusted w) (s : Story
           f : 1 ≤ x.end
           f = omega (arith, r.completed, ap (λ (y : Operation). y.end) q, op_end x)
 
-          shown : some (shows x) ≡ entry_of w o
+          shown : Some (shows x) ≡ entry_of w o
           shown = sym (entry_done s x f) ∙ sym (op_entry x) ∙ ap (λ (y : Operation). y.entry) q ∙ r.same ∙ op_entry o
 
           at : Dec (o.write ≡ 0) → In o order
           at (yes z) =
-              let n : some (shows x) ≡ none = shown ∙ entry_none o (sym (op_end o) ∙ e) z in
+              let n : Some (shows x) ≡ None = shown ∙ entry_none o (sym (op_end o) ∙ e) z in
               let y : ◌≡◌ {A = ℕ} 0 1 = cc in
               absurd (omega arith)
           at (no z) =
@@ -423,12 +422,12 @@ module _ {w : World} {place : ℕ} {l : List Tracked} (t : Trusted w) (s : Story
   one_entry : (a b : Tracked) → In a order → In b order → (op a).entry ≡ (op b).entry → shows a ≡ shows b
   one_entry a b i j e = some_is (sym (entry_of_lem i) ∙ sym (op_entry a) ∙ e ∙ op_entry b ∙ entry_of_lem j)
     where
-      some_is : {a b : Entry} → some a ≡ some b → a ≡ b
+      some_is : {a b : Entry} → Some a ≡ Some b → a ≡ b
       some_is q = cc
 
   equal_iff : (x y : Operation) → x.kind ≡ READS → y.kind ≡ READS → Before x y (map op order) → (x.entry ≡ y.entry) ↔ (Between (map op order) x y → ⊥)
   equal_iff x y p q b =
-      (apart, λ n. equal_reads (some empty) (map op order) x y (legal key op empty order sorted asks) p q b (λ z k f g. n (record { by = z; write = k; after = f; before = g })))
+      (apart, λ n. equal_reads (Some empty) (map op order) x y (legal key op empty order sorted asks) p q b (λ z k f g. n (record { by = z; write = k; after = f; before = g })))
     where
       entry_at_lem : {a b : Operation} → a ≡ b → a.entry ≡ b.entry
       entry_at_lem e = ap (λ (o : Operation). o.entry) e

@@ -1,11 +1,10 @@
 -- L3: no stamp is given twice, in any run, whatever is faulty. `unique`: two write operations of a run whose WRITEs have one stamp are one;
 -- it rests on the counts that each client gave (`counts` of `Earlier`) and on no quorum. `never_again`: the same of every run's history.
 -- Used by Order.antt and, on images, by consistency/proofs/Theorem.antt. Assumes nothing.
-use Rattle.std.specs.Prelude.{ℕ, ◌≤◌, Bool, true, false, ◌≡◌, List, map, ltb}
+use Rattle.std.specs.Prelude.{ℕ, ◌≤◌, Bool, true, false, ◌≡◌, List, map, ltb, None, Some}
 use Rattle.std.proofs.Math.Decide.{ℕ_discrete}
 use Rattle.std.proofs.Common.{arith, ◌∙◌}
 use Rattle.std.proofs.Math.Path.{refl, sym, ap}
-use Rattle.std.proofs.Math.Option.{none, some}
 use borrow.Author.Tests.{ltb-true, eq-eqb, ne_eqb, lt-ltb}
 use Rattle.protocol.specs.declared.Entry.{Entry}
 use Rattle.protocol.specs.Tools.{done}
@@ -34,11 +33,11 @@ module _ {w : World} {place : ℕ} {l : List Tracked} (s : Story w place l) wher
       go (equal e) = e
 
   -- the entry of a completed operation, and of an unfinished write whose WRITE is sent
-  pub entry_done : (o : Tracked) → 1 ≤ o.end → entry_of w o ≡ some (shows w o)
+  pub entry_done : (o : Tracked) → 1 ≤ o.end → entry_of w o ≡ Some (shows w o)
   unfolding entry_of
   entry_done o h = rw (ne_eqb o.end 0 (λ e. omega arith)) refl
 
-  pub entry_open : (o : Tracked) → o.end ≡ 0 → o.kind ≡ WRITES → 1 ≤ o.write → entry_of w o ≡ some (shows w o)
+  pub entry_open : (o : Tracked) → o.end ≡ 0 → o.kind ≡ WRITES → 1 ≤ o.write → entry_of w o ≡ Some (shows w o)
   unfolding entry_of sent content
   entry_open o h k g = rw (eq-eqb o.end 0 h, eq-eqb o.kind WRITES k, lt-ltb 0 o.write g) refl
 
@@ -51,14 +50,14 @@ module _ {w : World} {place : ℕ} {l : List Tracked} (s : Story w place l) wher
       go (no z) = record { write = k; sent = omega arith }
 
   -- a write operation that has an entry has sent its WRITE
-  entry_sent : (o : Tracked) → In o l → o.kind ≡ WRITES → {e : Entry} → entry_of w o ≡ some e → Own o × ((sent w o.write).entry ≡ e)
+  entry_sent : (o : Tracked) → In o l → o.kind ≡ WRITES → {e : Entry} → entry_of w o ≡ Some e → Own o × ((sent w o.write).entry ≡ e)
   unfolding entry_of
   entry_sent o i k {e} q = go (ℕ_discrete o.end 0)
     where
-      is_some : {x y : Entry} → some x ≡ some y → x ≡ y
+      is_some : {x y : Entry} → Some x ≡ Some y → x ≡ y
       is_some e = cc
 
-      nothing : {A : Type 0} {x : Entry} → none ≡ some x → A
+      nothing : {A : Type 0} {x : Entry} → None ≡ Some x → A
       nothing e = let z : ◌≡◌ {A = ℕ} 0 1 = cc in absurd (omega arith)
 
       sends : o.end ≡ 0 → (b : Bool) → ltb 0 o.write ≡ b → 1 ≤ o.write
@@ -74,7 +73,7 @@ module _ {w : World} {place : ℕ} {l : List Tracked} (s : Story w place l) wher
 
   -- two write operations of the history with one stamp are one
   pub stamped_once : (x y : Operation) → In x (map (operation w) l) → In y (map (operation w) l) → x.kind ≡ WRITES → y.kind ≡ WRITES
-      → {e f : Entry} → x.entry ≡ some e → y.entry ≡ some f → Level e f → x ≡ y
+      → {e f : Entry} → x.entry ≡ Some e → y.entry ≡ Some f → Level e f → x ≡ y
   unfolding operation
   stamped_once x y i j p q {e} {f} d g v =
       let a = in_map (operation w) l i in
@@ -89,7 +88,7 @@ module _ {w : World} {place : ℕ} {l : List Tracked} (s : Story w place l) wher
 -- "in a run its stamp is never given again": for every fresh world and every list of steps, given by any bytes
 pub never_again : (members f r : ℕ) (w : World) → fresh members f r ≡ done w → (steps : List (List ℕ)) → (x y : Operation)
     → In x (history (run_from w steps)) → In y (history (run_from w steps)) → x.kind ≡ WRITES → y.kind ≡ WRITES
-    → {e g : Entry} → x.entry ≡ some e → y.entry ≡ some g → count_of e ≡ count_of g → writer_of e ≡ writer_of g → x ≡ y
+    → {e g : Entry} → x.entry ≡ Some e → y.entry ≡ Some g → count_of e ≡ count_of g → writer_of e ≡ writer_of g → x ≡ y
 unfolding history
 never_again members f r w e steps x y i j p q a b c d =
     stamped_once (reached members f r w e steps).story x y i j p q a b (record { count = c; writer = d })

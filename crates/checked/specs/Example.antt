@@ -1,11 +1,11 @@
 -- A session of single machines, computed on the definitions. View 1 has server 1 alone, view 2 servers 1 and 2. Assumes nothing.
-use Rattle.std.specs.Prelude.{ℕ, true, false, ◌≡◌, refl}
-use Rattle.std.proofs.Math.Option.{none, some}
-use Rattle.checked.specs.Types.{Entry, Server, Phase, Idle, Reading, Writing, Client, Settled, EndSent, Administrator, Message}
+use Rattle.std.specs.Prelude.{ℕ, true, false, ◌≡◌, refl, None, Some}
+use Rattle.checked.specs.Types.{Entry, Server, Phase, Idle, Reading, Writing, Client, Administrator, Message}
 use Rattle.protocol.specs.Tools.{count_to, holds, bit_of, Result, refused, done, guard}
 use Rattle.protocol.specs.Sizes.{quorum, size, sized, read_size, view_with}
 use Rattle.protocol.specs.Entries.{entry, empty, below, larger, same, entry_fits}
-use Rattle.protocol.specs.Servers.{READ, WRITE, END, START, ANSWER, Reply, comparing, replacing, without_key, joining, serve}
+use Rattle.protocol.specs.declared.Reply.{Reply}
+use Rattle.protocol.specs.Servers.{READ, WRITE, END, START, ANSWER, comparing, replacing, without_key, joining, serve}
 use Rattle.protocol.specs.Readable.{client_range}
 use Rattle.protocol.specs.Clients.{NONE, WRITES, READS, number, begin, next_count, to_write, given_by, count_left, close, call, advance}
 use Rattle.values.specs.Bits.{bit_in}
@@ -20,10 +20,10 @@ client : Phase → ℕ → Entry → ℕ → Client
 client p kind e given = record { phase = p; kind = kind; entry = e; given = record { 0 = given } }
 
 administrator : ℕ → Administrator
-administrator t = record { newest = record { 0 = t }; ending = Settled }
+administrator t = record { newest = record { 0 = t }; ending = None }
 
 ending : ℕ → ℕ → Administrator
-ending t n = record { newest = record { 0 = t }; ending = EndSent (number n) }
+ending t n = record { newest = record { 0 = t }; ending = Some (number n) }
 
 request : ℕ → ℕ → ℕ → Entry → Message
 request kind who t e =
@@ -35,10 +35,10 @@ answer s t n e =
 
 -- the record after a rule, with or without an answer
 answers : Server → ℕ → Entry → Result Reply
-answers a t e = done (record { server = a; answer = some (record { view = record { 0 = t }; entry = e }) })
+answers a t e = done (record { server = a; answer = Some (record { view = record { 0 = t }; entry = e }) })
 
 silent : Server → Result Reply
-silent a = done (record { server = a; answer = none })
+silent a = done (record { server = a; answer = None })
 
 -- client 1 writes 7
 write_begins : write_rule (client Idle NONE empty 0) 7 1 ≡ done (client (Reading (number 1)) WRITES (entry 0 0 7) 0)
@@ -58,7 +58,7 @@ read_taken : take_rule (answer 1 1 1 empty) 1 ≡ done (answer 1 1 1 empty)
 unfolding answer take_rule guard message_in_range entry_fits same number_fits
 read_taken = refl
 
-read_closes : closes_at (first_answer (answer 1 1 1 empty)) (read_size (view_with 1 0 0)) ≡ some (record { entry = empty; one = true })
+read_closes : closes_at (first_answer (answer 1 1 1 empty)) (read_size (view_with 1 0 0)) ≡ Some (record { entry = empty; one = true })
 unfolding answer closes_at first_answer bit_in bit_of holds count_to read_size quorum size
 read_closes = refl
 

@@ -2,4 +2,3 @@ pub mod Types
 pub mod Ranges
 pub mod Rules
 pub mod Example
-pub mod Guards

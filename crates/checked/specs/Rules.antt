@@ -4,7 +4,8 @@ use Rattle.checked.specs.Types.{Entry, View, Server, Phase, Idle, Reading, Writi
 use Rattle.protocol.specs.Tools.{within, Result, done, guard}
 use Rattle.protocol.specs.Sizes.{clients, views, messages}
 use Rattle.protocol.specs.Entries.{entry_fits}
-use Rattle.protocol.specs.Servers.{ANSWER, Reply, serve, may_answer}
+use Rattle.protocol.specs.declared.Reply.{Reply}
+use Rattle.protocol.specs.Servers.{ANSWER, serve, may_answer}
 use Rattle.protocol.specs.Clients.{WRITES, READS, begin, give_up, Close, once, close, is_ending, call, bare_fits, restart, advance}
 use Rattle.checked.specs.Ranges.{number_fits, server_in_range, message_in_range, client_in_range, administrator_in_range}
 

@@ -5,7 +5,7 @@ pub use Rattle.protocol.specs.declared.Server.{Server}
 pub use Rattle.protocol.specs.declared.Phase.{Phase}
 pub use Rattle.protocol.specs.declared.Phase.TheVariants.{Idle, Reading, Writing}
 pub use Rattle.protocol.specs.declared.Client.{Client}
-pub use Rattle.protocol.specs.declared.Ending.{Ending}
-pub use Rattle.protocol.specs.declared.Ending.TheVariants.{Settled, EndSent}
+pub use Rattle.protocol.specs.Types.{Ending}
+pub use Rattle.std.specs.Prelude.{None, Some}
 pub use Rattle.protocol.specs.declared.Administrator.{Administrator}
 pub use Rattle.protocol.specs.declared.Message.{Message}

@@ -1,10 +1,12 @@
 -- Numbers as bytes, the lowest first, and zero bytes. Number to bytes to number: `half_le16`, `word_le32`; bytes to number to
 -- bytes: `le16_part`, `le32_part`; one byte and zero bytes: `byte_part`, `zeros_part`, and back `zeros_back`.
 -- Used by the laws of Records and Spelling and by the code of `bytes`.
-use Rattle.std.specs.Prelude.{◌≡◌, refl, Bool, true, false, ◌&&◌, List, [], ◌∷◌, ◌++◌, ℕ, zero, suc, ◌+◌, ◌*◌, ◌/◌, ◌%◌, ◌≤◌, ◌<◌, ◌^◌, get_or, length, replicate, eqb}
-use Rattle.std.proofs.Common.{sym, ap, ◌∙◌, not-suc-le-zero, add-one, arith, length-take, eqb-true, eq-eqb, ne_eqb}
+use Rattle.std.specs.Prelude.{◌≡◌, refl, Bool, true, ◌&&◌, List, [], ◌∷◌, ◌++◌, ℕ, zero, suc, ◌+◌, ◌*◌, ◌/◌, ◌%◌, ◌≤◌, ◌<◌, ◌^◌, get_or, length, take, drop, replicate, eqb}
+use Rattle.std.proofs.Common.{sym, ap, ◌∙◌, add-one, arith, length-take, length-drop, get_or-drop, eqb-true, eq-eqb}
 use Rattle.std.proofs.Math.Decide.{dec_lt}
+use Rattle.std.specs.List.{list_all}
 use Rattle.std.proofs.lemmas.List.{get_or-replicate}
+use Rattle.std.proofs.lemmas.List.Folds.{list_all_more}
 use Rattle.std.proofs.Math.ListN.{get_or-eq_default}
 use Rattle.protocol.proofs.Laws.Tests.{and_left, and_right, and_both}
 use Rattle.protocol.specs.Runs.{u16_width, u32_width, u16_at, u32_at}
@@ -113,26 +115,13 @@ unfoldable pub zeros : List ℕ → ℕ → ℕ → Bool
 zeros b at zero = true
 zeros b at (suc n) = zeros b at n && clear b (at + n)
 
-pub zeros_none : (b : List ℕ) (at : ℕ) → zeros b at 0 ≡ true
+-- as an iterator finds it
+pub zeros_all : (b : List ℕ) (at n : ℕ) → at + n ≤ length b → zeros b at n ≡ list_all (λ x. eqb x 0) (take n (drop at b))
 unfolding zeros
-zeros_none b at = refl
-
-pub zeros_more : (b : List ℕ) (at n : ℕ) → zeros b at n ≡ true → get_or b (at + n) 0 ≡ 0 → zeros b at (n + 1) ≡ true
-unfolding zeros
-zeros_more b at n h z = rw add-one (and_both _ _ h (eq-eqb (get_or b (at + n) 0) 0 z))
-
-pub zeros_fail : (b : List ℕ) (at n i : ℕ) → i < n → (get_or b (at + i) 0 ≡ 0 → ⊥) → zeros b at n ≡ false
-unfolding zeros
-zeros_fail b at zero i l h = absurd (not-suc-le-zero l)
-zeros_fail b at (suc n) i l h =
-    elim (dec_lt i n) [
-      | yes m ↦ rw (zeros_fail b at n i m h)
-      | no m ↦ let e : i ≡ n = omega arith in rw (ne_eqb (get_or b (at + n) 0) 0 (λ z. h (rw e z))) (and-false (zeros b at n))
-    ]
-  where
-    and-false : (t : Bool) → t && false ≡ false
-    and-false true = refl
-    and-false false = refl
+zeros_all b at zero h = refl
+zeros_all b at (suc n) h =
+    let l : n < length (drop at b) = simp length-drop (omega arith) in
+    rw (← add-one n, list_all_more (λ x. eqb x 0) (drop at b) n 0 l, get_or-drop, ← zeros_all b at n (omega arith))
 
 replicate_more : (n : ℕ) → ◌++◌ {A = ℕ} (replicate n 0) (0 ∷ []) ≡ replicate (suc n) 0
 replicate_more zero = refl

@@ -3,6 +3,7 @@ pub mod Lists
 pub mod Bytes
 pub mod Records
 pub mod Places
+pub mod Ranges
 pub mod Images
 pub mod Laws
 pub mod Spelling

@@ -7,6 +7,7 @@ use Prim.Native.Nat.{ℕ, zero, suc, ◌+◌, ◌*◌, ◌-◌, ◌≤◌, ◌<�
 use Rattle.std.proofs.Math.Nat.{add-sub_cancel_left, zero-mul, suc-mul}
 use Rattle.std.proofs.Math.ListN.{length}
 use Rattle.std.proofs.lemmas.List.{replicate-append-replicate, take-append-le, drop-append-le}
+use borrow.Rule.Slice.PartMut.{put_mid}
 use Rattle.protocol.specs.Tools.{nth, replace}
 use Rattle.protocol.specs.Worlds.{list_to}
 use Rattle.std.proofs.Math.Seq.{take-append-add, drop-append-add, take-nil, take-length, drop-length, paste, paste-zero, paste-suc}
@@ -93,11 +94,19 @@ put_put l at vs us h =
     ∙ put_right a r 0 us
     ∙ simp (append_assoc, length-append, drop-drop, add-zero, add_assoc)
 
--- ---- what a part that was lent is, and a finished copy
+pub put_more : (l : List ℕ) (at k : ℕ) (vs us : List ℕ) → at ≤ length l → k ≡ at + length vs → put (put l at vs) k us ≡ put l at (vs ++ us)
+put_more l at k vs us h e = rw e (put_put l at vs us h)
+
+-- ---- what a part that was lent is, and a copy into it
 
 pub span : (l : List ℕ) (at n : ℕ) → take (at + n - at) (drop at l) ≡ part l at n
 unfolding part
 span l at n = ap (λ (k : ℕ). take k (drop at l)) (add-sub_cancel_left at n)
+
+-- a part that was lent, and what was written there
+pub lent : (l : List ℕ) (at k : ℕ) (vs : List ℕ) → k ≡ length vs → put_mid at k l vs ≡ put l at vs
+unfolding put
+lent l at k vs e = rw e
 
 pub pasted : (l : List ℕ) (at : ℕ) (vs : List ℕ) → paste l at vs (length vs) ≡ put l at vs
 unfolding put

@@ -1,7 +1,7 @@
 -- Each record as bytes: what it reads as (`..Of`), what it is written as (`..Bytes`), and whether its spare bytes, flags and
 -- tags are those of its writing (`..Plain`). Record to bytes to record: `view_of_bytes`, `server_of_bytes` and so on, for records
 -- whose numbers fit (`ViewFits` ..); bytes to record to bytes is in Spelling. Used by the code of `records` and by Places.
-use Rattle.std.specs.Prelude.{◌≡◌, refl, Bool, true, false, not, ◌&&◌, ◌||◌, List, [], ◌∷◌, ◌++◌, ℕ, ◌<◌, ◌^◌, get_or, length, replicate, eqb, leb}
+use Rattle.std.specs.Prelude.{◌≡◌, refl, Bool, true, false, not, ◌&&◌, ◌||◌, List, [], ◌∷◌, ◌++◌, ℕ, ◌<◌, ◌^◌, get_or, length, replicate, eqb, leb, None, Some}
 use Rattle.std.proofs.Common.{ap, sym}
 use Rattle.protocol.specs.declared.Entry.{Entry}
 use Rattle.protocol.specs.declared.View.{View}
@@ -9,8 +9,7 @@ use Rattle.protocol.specs.declared.Server.{Server}
 use Rattle.protocol.specs.declared.Phase.{Phase}
 use Rattle.protocol.specs.declared.Phase.TheVariants.{Idle, Reading, Writing}
 use Rattle.protocol.specs.declared.Client.{Client}
-use Rattle.protocol.specs.declared.Ending.{Ending}
-use Rattle.protocol.specs.declared.Ending.TheVariants.{Settled, EndSent}
+use Rattle.protocol.specs.Types.{Ending}
 use Rattle.protocol.specs.declared.Administrator.{Administrator}
 use Rattle.protocol.specs.declared.Message.{Message}
 use Rattle.protocol.specs.Tools.{if, bit}
@@ -126,7 +125,7 @@ message_plain b = leb (get_or b taken_place 0) 1 && entry_plain (part b message_
 
 -- "newest view u8, ending u8 (0 or 1), END number u16 (0 unless ending)"
 unfoldable pub ending_of : ℕ → ℕ → Ending
-ending_of tag n = if (eqb tag 0) Settled (EndSent (number n))
+ending_of tag n = if (eqb tag 0) None (Some (number n))
 
 unfoldable pub administrator_of : List ℕ → Administrator
 administrator_of b = record { newest = record { 0 = get_or b newest_place 0 }; ending = ending_of (get_or b ending_place 0) (u16_at b end_place) }
@@ -239,8 +238,8 @@ message_of_bytes m h =
 
 ending_back : (x : Ending) (n : ℕ) → end_of x ≡ n → ending_of (bit (is_ending x)) n ≡ x
 unfolding ending_of
-ending_back Settled n e = refl
-ending_back (EndSent m) n e = ap (λ (k : ℕ). EndSent (number k)) (sym e)
+ending_back None n e = refl
+ending_back (Some m) n e = ap (λ (k : ℕ). Some (number k)) (sym e)
 
 pub administrator_of_bytes : (a : Administrator) → AdministratorFits a → administrator_of (administrator_bytes a) ≡ a
 unfolding administrator_of administrator_bytes

@@ -1,10 +1,9 @@
 -- Bytes that spell a record and are its bytes again: `entry_plain_lem`, `view_plain_lem` and so on, where the record is plain, and only
 -- there (`plain_entry`, `plain_view` ..). Each record is spelled piece by piece, in the order of its places. Used by Whole.
-use Rattle.std.specs.Prelude.{◌≡◌, refl, Bool, true, false, not, ◌&&◌, ◌||◌, List, [], ◌∷◌, ℕ, zero, suc, ◌+◌, ◌*◌, ◌/◌, ◌%◌, ◌≤◌, ◌<◌, length, get_or, leb, eqb}
+use Rattle.std.specs.Prelude.{◌≡◌, refl, Bool, true, false, not, ◌&&◌, ◌||◌, List, [], ◌∷◌, ℕ, zero, suc, ◌+◌, ◌*◌, ◌/◌, ◌%◌, ◌≤◌, ◌<◌, length, get_or, leb, eqb, None, Some}
 use Rattle.std.proofs.Common.{sym, ap, ◌∙◌, arith, eqb-true, leb-true, eq-eqb, le-leb}
 use Rattle.protocol.specs.declared.Phase.{Phase}
 use Rattle.protocol.specs.declared.Phase.TheVariants.{Idle, Reading, Writing}
-use Rattle.protocol.specs.declared.Ending.TheVariants.{Settled, EndSent}
 use Rattle.protocol.specs.Tools.{bit, if, both, join}
 use Rattle.protocol.specs.Clients.{number, request_of, end_of, is_ending}
 use Rattle.protocol.specs.Runs.{u16_at}
@@ -60,16 +59,16 @@ of_request : (t u : Bool) (k a b : ℕ) → k ≡ a + 256 * b → a ≡ request_
 of_request true u k a b e x y = eq-eqb k 0 (omega arith)
 of_request false u k a b e x y = refl
 
-ending_of_lem : (t : Bool) (k : ℕ) → not t || eqb k 0 ≡ true → end_of (if t Settled (EndSent (number k))) ≡ k
+ending_of_lem : (t : Bool) (k : ℕ) → not t || eqb k 0 ≡ true → end_of (if t None (Some (number k))) ≡ k
 ending_of_lem true k h = sym (eqb-true k 0 h)
 ending_of_lem false k h = refl
 
-of_ending : (t : Bool) (k a b : ℕ) → k ≡ a + 256 * b → a ≡ end_of (if t Settled (EndSent (number k))) % 256
-    → b ≡ end_of (if t Settled (EndSent (number k))) / 256 % 256 → not t || eqb k 0 ≡ true
+of_ending : (t : Bool) (k a b : ℕ) → k ≡ a + 256 * b → a ≡ end_of (if t None (Some (number k))) % 256
+    → b ≡ end_of (if t None (Some (number k))) / 256 % 256 → not t || eqb k 0 ≡ true
 of_ending true k a b e x y = eq-eqb k 0 (omega arith)
 of_ending false k a b e x y = refl
 
-is_ending_lem : (t : Bool) (k : ℕ) → is_ending (if t Settled (EndSent (number k))) ≡ not t
+is_ending_lem : (t : Bool) (k : ℕ) → is_ending (if t None (Some (number k))) ≡ not t
 is_ending_lem true k = refl
 is_ending_lem false k = refl
 

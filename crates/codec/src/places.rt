@@ -1,7 +1,11 @@
-// The records of a lent image by their numbers.
-ghost use Rattle.std.specs.Prelude.{◌≡◌, ◌≤◌, length};
+// The records of a lent image by their numbers. Each function is one line over `record` and a record's own reading or writing: a trait for
+// them would need an impl for each record, which is longer.
+ghost use Rattle.std.specs.Prelude.{◌≡◌, ◌+◌, ◌*◌, ◌≤◌, length};
 ghost use Rattle.protocol.specs.Sizes.{clients, servers, views, messages};
+ghost use Rattle.protocol.specs.Worlds.{present as is_present};
 ghost use Rattle.codec.specs.Layout.{image_size};
+ghost use Rattle.codec.specs.Lists.{part};
+ghost use Rattle.codec.specs.Images.{decode};
 ghost use Rattle.codec.specs.Places.{used_at, put_used, administrator_at, put_administrator, view_at, put_view, holder_at, put_holder, server_at, put_server, client_at, put_client, message_at, put_message};
 
 use super::bytes::{get16, put8, put16};
@@ -17,7 +21,19 @@ use protocol::{
     Administrator, Client, Message, MessageNumber, Server, ServerNumber, View, ViewNumber,
 };
 
+// Record k, counted from 0, of those of one width that lie one behind another from a place on.
+#[tactic(auto, unfolding(crate::specs::Lists::part))]
+pub fn record(image: &[u8], from: usize, width: usize, k: usize) -> &[u8]
+    requires { from + width * k + width ≤ length image.now }
+    ensures bytes { result.now ≡ part image.now (from + width * k) width }
+    ensures len { length result.now ≡ width }
+{
+    let at = from + width * k;
+    &image[at..at + width]
+}
+
 // Messages used.
+#[tactic(auto, unfolding(crate::specs::Places::used_at))]
 pub fn load_used(image: &[u8]) -> u16
     requires { length image.now ≡ image_size }
     ensures { result ≡ used_at image.now }
@@ -25,6 +41,16 @@ pub fn load_used(image: &[u8]) -> u16
     get16(image, USED_AT)
 }
 
+// A message of that number was sent.
+#[tactic(auto, unfolding(protocol::specs::Worlds::present, crate::specs::Images::decode))]
+pub fn present(image: &[u8], n: MessageNumber) -> bool
+    requires { length image.now ≡ image_size }
+    ensures { result ≡ is_present (decode image.now) n.0 }
+{
+    (1..=load_used(image)).contains(&n.0)
+}
+
+#[tactic(auto, unfolding(crate::specs::Places::put_used))]
 pub fn store_used(image: &mut [u8], n: u16)
     requires { length image.old ≡ image_size }
     ensures { image.new ≡ put_used image.old n }
@@ -32,6 +58,7 @@ pub fn store_used(image: &mut [u8], n: u16)
     put16(image, USED_AT, n);
 }
 
+#[tactic(auto, unfolding(crate::specs::Places::administrator_at, crate::specs::Lists::part))]
 pub fn load_administrator(image: &[u8]) -> Administrator
     requires { length image.now ≡ image_size }
     ensures { result ≡ administrator_at image.now }
@@ -39,6 +66,7 @@ pub fn load_administrator(image: &[u8]) -> Administrator
     read_administrator(&image[ADMINISTRATOR_AT..ADMINISTRATOR_AT + ADMINISTRATOR])
 }
 
+#[tactic(auto, unfolding(crate::specs::Places::put_administrator))]
 pub fn store_administrator(image: &mut [u8], a: Administrator)
     requires { length image.old ≡ image_size }
     ensures { image.new ≡ put_administrator image.old a }
@@ -46,97 +74,92 @@ pub fn store_administrator(image: &mut [u8], a: Administrator)
     write_administrator(image, ADMINISTRATOR_AT, a);
 }
 
+#[tactic(auto, unfolding(crate::specs::Places::view_at))]
 pub fn load_view(image: &[u8], t: ViewNumber) -> View
     requires { (length image.now ≡ image_size) × (1 ≤ t.0) × (t.0 ≤ views) }
     ensures { result ≡ view_at image.now t.0 }
 {
-    let n = t.0;
-    let at = VIEWS_AT + VIEW * (n as usize - 1);
-    read_view(&image[at..at + VIEW])
+    read_view(record(image, VIEWS_AT, VIEW, t.0 as usize - 1))
 }
 
+#[tactic(auto, unfolding(crate::specs::Places::put_view))]
 pub fn store_view(image: &mut [u8], t: ViewNumber, v: View)
     requires { (length image.old ≡ image_size) × (1 ≤ t.0) × (t.0 ≤ views) }
     ensures { image.new ≡ put_view image.old t.0 v }
 {
-    let n = t.0;
-    write_view(image, VIEWS_AT + VIEW * (n as usize - 1), v);
+    write_view(image, VIEWS_AT + VIEW * (t.0 as usize - 1), v);
 }
 
 // The threshold of view t alone.
+#[tactic(auto, unfolding(crate::specs::Places::view_at, crate::specs::Records::view_of, crate::specs::Lists::part))]
 pub fn load_threshold(image: &[u8], t: ViewNumber) -> u8
     requires { (length image.now ≡ image_size) × (1 ≤ t.0) × (t.0 ≤ views) }
     ensures { result ≡ (view_at image.now t.0).f }
 {
-    let n = t.0;
-    image[VIEWS_AT + VIEW * (n as usize - 1) + THRESHOLD_AT]
+    image[VIEWS_AT + VIEW * (t.0 as usize - 1) + THRESHOLD_AT]
 }
 
 // The number of the faulty key holders of view t.
+#[tactic(auto, unfolding(crate::specs::Places::holder_at))]
 pub fn load_holders(image: &[u8], t: ViewNumber) -> u8
     requires { (length image.now ≡ image_size) × (1 ≤ t.0) × (t.0 ≤ views) }
     ensures { result ≡ holder_at image.now t.0 }
 {
-    let n = t.0;
-    image[HOLDERS_AT + HOLDER * (n as usize - 1)]
+    image[HOLDERS_AT + HOLDER * (t.0 as usize - 1)]
 }
 
+#[tactic(auto, unfolding(crate::specs::Places::put_holder, crate::specs::Records::holder_bytes))]
 pub fn store_holders(image: &mut [u8], t: ViewNumber, k: u8)
     requires { (length image.old ≡ image_size) × (1 ≤ t.0) × (t.0 ≤ views) }
     ensures { image.new ≡ put_holder image.old t.0 k }
 {
-    let n = t.0;
-    put8(image, HOLDERS_AT + HOLDER * (n as usize - 1), k);
+    put8(image, HOLDERS_AT + HOLDER * (t.0 as usize - 1), k);
 }
 
+#[tactic(auto, unfolding(crate::specs::Places::server_at))]
 pub fn load_server(image: &[u8], s: ServerNumber) -> Server
     requires { (length image.now ≡ image_size) × (1 ≤ s.0) × (s.0 ≤ servers) }
     ensures { result ≡ server_at image.now s.0 }
 {
-    let n = s.0;
-    let at = SERVERS_AT + SERVER * (n as usize - 1);
-    read_server(&image[at..at + SERVER])
+    read_server(record(image, SERVERS_AT, SERVER, s.0 as usize - 1))
 }
 
+#[tactic(auto, unfolding(crate::specs::Places::put_server))]
 pub fn store_server(image: &mut [u8], s: ServerNumber, v: Server)
     requires { (length image.old ≡ image_size) × (1 ≤ s.0) × (s.0 ≤ servers) }
     ensures { image.new ≡ put_server image.old s.0 v }
 {
-    let n = s.0;
-    let at = SERVERS_AT + SERVER * (n as usize - 1);
-    write_server(image, at, v);
+    write_server(image, SERVERS_AT + SERVER * (s.0 as usize - 1), v);
 }
 
+#[tactic(auto, unfolding(crate::specs::Places::client_at))]
 pub fn load_client(image: &[u8], c: u8) -> Client
     requires { (length image.now ≡ image_size) × (1 ≤ c) × (c ≤ clients) }
     ensures { result ≡ client_at image.now c }
 {
-    let at = CLIENTS_AT + CLIENT * (c as usize - 1);
-    read_client(&image[at..at + CLIENT])
+    read_client(record(image, CLIENTS_AT, CLIENT, c as usize - 1))
 }
 
+#[tactic(auto, unfolding(crate::specs::Places::put_client))]
 pub fn store_client(image: &mut [u8], c: u8, v: Client)
     requires { (length image.old ≡ image_size) × (1 ≤ c) × (c ≤ clients) }
     ensures { image.new ≡ put_client image.old c v }
 {
-    let at = CLIENTS_AT + CLIENT * (c as usize - 1);
-    write_client(image, at, v);
+    write_client(image, CLIENTS_AT + CLIENT * (c as usize - 1), v);
 }
 
+#[tactic(auto, unfolding(crate::specs::Places::message_at))]
 pub fn load_message(image: &[u8], n: MessageNumber) -> Message
     requires { (length image.now ≡ image_size) × (n.0 ≤ messages) }
     ensures { result ≡ message_at image.now n.0 }
 {
-    let k = n.0;
-    let at = MESSAGES_AT + MESSAGE * (k as usize);
-    read_message(&image[at..at + MESSAGE])
+    read_message(record(image, MESSAGES_AT, MESSAGE, n.0 as usize))
 }
 
+#[tactic(auto, unfolding(crate::specs::Places::put_message))]
 pub fn store_message(image: &mut [u8], n: MessageNumber, m: Message)
     requires { (length image.old ≡ image_size) × (n.0 ≤ messages) }
     ensures { image.new ≡ put_message image.old n.0 m }
 {
-    let k = n.0;
-    let at = MESSAGES_AT + MESSAGE * (k as usize);
-    write_message(image, at, m);
+    write_message(image, MESSAGES_AT + MESSAGE * (n.0 as usize), m);
 }

@@ -21,23 +21,22 @@ use super::layout::{
     WRITER_AT,
 };
 use protocol::{
-    Administrator, Client, Ending, Entry, KeySet, Message, MessageNumber, Phase, Server, ServerSet,
-    Stamp, StampCount, Step, View, ViewNumber,
+    Administrator, Client, Entry, KeySet, Message, MessageNumber, Phase, Server, ServerSet, Stamp,
+    StampCount, Step, View, ViewNumber,
 };
 
 // "Entry, 12: count u32, writer u8, 3 zero bytes, value u32."
+#[tactic(auto, unfolding(crate::specs::Records::entry_of))]
 pub fn read_entry(b: &[u8]) -> Entry
     requires { length b.now ≡ entry_width }
     ensures { result ≡ entry_of b.now }
 {
-    let count = get32(b, COUNT_AT);
-    let value = get32(b, VALUE_AT);
     Entry {
         stamp: Stamp {
-            count: StampCount(count),
+            count: StampCount(get32(b, COUNT_AT)),
             writer: b[WRITER_AT],
         },
-        value: value,
+        value: get32(b, VALUE_AT),
     }
 }
 
@@ -45,49 +44,46 @@ pub fn write_entry(image: &mut [u8], at: usize, e: Entry)
     requires { at + entry_width ≤ length image.old }
     ensures { image.new ≡ put image.old at (entry_bytes e) }
 {
-    let stamp = e.stamp;
-    let count = stamp.count;
-    put32(image, at + COUNT_AT, count.0);
-    put8(image, at + WRITER_AT, stamp.writer);
+    put32(image, at + COUNT_AT, e.stamp.count.0);
+    put8(image, at + WRITER_AT, e.stamp.writer);
     put_zeros(image, at + ENTRY_SPARE_AT, ENTRY_SPARE);
     put32(image, at + VALUE_AT, e.value);
     put_zeros(image, at + ENTRY_REST_AT, ENTRY_REST);
 }
 
+#[tactic(auto, unfolding(crate::specs::Records::entry_plain))]
 pub fn entry_plain(b: &[u8]) -> bool
     requires { length b.now ≡ entry_width }
     ensures { result ≡ entry_plain b.now }
 {
-    if !are_zero(b, ENTRY_SPARE_AT, ENTRY_SPARE) {
-        return false;
-    }
-    are_zero(b, ENTRY_REST_AT, ENTRY_REST)
+    are_zero(b, ENTRY_SPARE_AT, ENTRY_SPARE) && are_zero(b, ENTRY_REST_AT, ENTRY_REST)
 }
 
 // "View: member bits u32 (bit s-1 is server s), f u8, 3 zero."; "a read size r in the first of its zero bytes"
+#[tactic(auto, unfolding(crate::specs::Records::view_of))]
 pub fn read_view(b: &[u8]) -> View
     requires { length b.now ≡ view_width }
     ensures { result ≡ view_of b.now }
 {
-    let members = get32(b, MEMBERS_AT);
     View {
-        members: ServerSet(members),
+        members: ServerSet(get32(b, MEMBERS_AT)),
         f: b[THRESHOLD_AT],
         r: b[READ_SIZE_AT],
     }
 }
 
+#[tactic(auto, using(crate::specs::Lists::put_more), unfolding(crate::specs::Records::view_bytes))]
 pub fn write_view(image: &mut [u8], at: usize, v: View)
     requires { at + view_width ≤ length image.old }
     ensures { image.new ≡ put image.old at (view_bytes v) }
 {
-    let members = v.members;
-    put32(image, at + MEMBERS_AT, members.0);
+    put32(image, at + MEMBERS_AT, v.members.0);
     put8(image, at + THRESHOLD_AT, v.f);
     put8(image, at + READ_SIZE_AT, v.r);
     put_zeros(image, at + VIEW_SPARE_AT, VIEW_SPARE);
 }
 
+#[tactic(auto, unfolding(crate::specs::Records::view_plain))]
 pub fn view_plain(b: &[u8]) -> bool
     requires { length b.now ≡ view_width }
     ensures { result ≡ view_plain b.now }
@@ -96,59 +92,51 @@ pub fn view_plain(b: &[u8]) -> bool
 }
 
 // "Server: view u8 (0 none yet), faulty u8, 2 zero, key bits u32 (bit t-1), entry."
+#[tactic(auto, unfolding(crate::specs::Records::server_of, crate::specs::Lists::part))]
 pub fn read_server(b: &[u8]) -> Server
     requires { length b.now ≡ server_width }
     ensures { result ≡ server_of b.now }
 {
-    let keys = get32(b, KEYS_AT);
-    let entry = read_entry(&b[SERVER_ENTRY_AT..SERVER_ENTRY_AT + ENTRY]);
-    let faulty = b[FAULTY_AT] != 0;
     Server {
         view: ViewNumber(b[SERVER_VIEW_AT]),
-        faulty: faulty,
-        keys: KeySet(keys),
-        entry: entry,
+        faulty: b[FAULTY_AT] != 0,
+        keys: KeySet(get32(b, KEYS_AT)),
+        entry: read_entry(&b[SERVER_ENTRY_AT..SERVER_ENTRY_AT + ENTRY]),
     }
 }
 
+#[tactic(auto, using(crate::specs::Lists::put_more), unfolding(crate::specs::Records::server_bytes))]
 pub fn write_server(image: &mut [u8], at: usize, v: Server)
     requires { at + server_width ≤ length image.old }
     ensures { image.new ≡ put image.old at (server_bytes v) }
 {
-    let view = v.view;
-    let keys = v.keys;
-    let entry = v.entry;
-    put8(image, at + SERVER_VIEW_AT, view.0);
+    put8(image, at + SERVER_VIEW_AT, v.view.0);
     put8(image, at + FAULTY_AT, v.faulty as u8);
     put_zeros(image, at + SERVER_SPARE_AT, SERVER_SPARE);
-    put32(image, at + KEYS_AT, keys.0);
-    write_entry(image, at + SERVER_ENTRY_AT, entry);
+    put32(image, at + KEYS_AT, v.keys.0);
+    write_entry(image, at + SERVER_ENTRY_AT, v.entry);
 }
 
+#[tactic(auto, unfolding(crate::specs::Records::server_plain, crate::specs::Lists::part))]
 pub fn server_plain(b: &[u8]) -> bool
     requires { length b.now ≡ server_width }
     ensures { result ≡ server_plain b.now }
 {
-    if 1 < b[FAULTY_AT] {
-        return false;
-    }
-    if !are_zero(b, SERVER_SPARE_AT, SERVER_SPARE) {
-        return false;
-    }
-    entry_plain(&b[SERVER_ENTRY_AT..SERVER_ENTRY_AT + ENTRY])
+    b[FAULTY_AT] <= 1
+        && are_zero(b, SERVER_SPARE_AT, SERVER_SPARE)
+        && entry_plain(&b[SERVER_ENTRY_AT..SERVER_ENTRY_AT + ENTRY])
 }
 
 // "phase u8 (0 idle, 1 reading, 2 writing)", "request u16 (0 when idle)"
+#[tactic(auto, unfolding(crate::specs::Records::phase_of))]
 fn phase_of(tag: u8, request: MessageNumber) -> Phase
     ensures { result ≡ phase_of tag request.0 }
 {
-    if tag == 0 {
-        return Phase::Idle;
+    match tag {
+        0 => Phase::Idle,
+        1 => Phase::Reading(request),
+        _ => Phase::Writing(request),
     }
-    if tag == 1 {
-        return Phase::Reading(request);
-    }
-    Phase::Writing(request)
 }
 
 fn phase_tag(p: Phase) -> u8
@@ -161,212 +149,149 @@ fn phase_tag(p: Phase) -> u8
     }
 }
 
-fn phase_request(p: Phase) -> MessageNumber
-    ensures { result.0 ≡ request_of p }
-{
-    match p {
-        Phase::Idle => MessageNumber(0),
-        Phase::Reading(r) => r,
-        Phase::Writing(r) => r,
-    }
-}
-
 // A number that is 0 where its tag is 0.
 fn untagged_zero(tag: u8, n: u16) -> bool
     ensures { result ≡ untagged tag n }
 {
-    if tag != 0 {
-        return true;
-    }
-    n == 0
+    tag != 0 || n == 0
 }
 
 // "Client: phase u8, kind u8 ..., request u16, entry", and the largest count that it gave.
+#[tactic(auto, unfolding(crate::specs::Records::client_of, crate::specs::Lists::part))]
 pub fn read_client(b: &[u8]) -> Client
     requires { length b.now ≡ client_width }
     ensures { result ≡ client_of b.now }
 {
-    let request = get16(b, CLIENT_REQUEST_AT);
-    let phase = phase_of(b[PHASE_AT], MessageNumber(request));
-    let entry = read_entry(&b[CLIENT_ENTRY_AT..CLIENT_ENTRY_AT + ENTRY]);
-    let given = get32(b, GIVEN_AT);
     Client {
-        phase: phase,
+        phase: phase_of(b[PHASE_AT], MessageNumber(get16(b, CLIENT_REQUEST_AT))),
         kind: b[CLIENT_KIND_AT],
-        entry: entry,
-        given: StampCount(given),
+        entry: read_entry(&b[CLIENT_ENTRY_AT..CLIENT_ENTRY_AT + ENTRY]),
+        given: StampCount(get32(b, GIVEN_AT)),
     }
 }
 
+#[tactic(auto, using(crate::specs::Lists::put_more, crate::specs::Records::length_entry_bytes), unfolding(crate::specs::Records::client_bytes))]
 pub fn write_client(image: &mut [u8], at: usize, v: Client)
     requires { at + client_width ≤ length image.old }
     ensures { image.new ≡ put image.old at (client_bytes v) }
 {
-    let phase = v.phase;
-    let entry = v.entry;
-    let given = v.given;
-    let request = phase_request(phase);
-    put8(image, at + PHASE_AT, phase_tag(phase));
+    put8(image, at + PHASE_AT, phase_tag(v.phase));
     put8(image, at + CLIENT_KIND_AT, v.kind);
-    put16(image, at + CLIENT_REQUEST_AT, request.0);
-    write_entry(image, at + CLIENT_ENTRY_AT, entry);
-    put32(image, at + GIVEN_AT, given.0);
+    put16(image, at + CLIENT_REQUEST_AT, v.phase.request().0);
+    write_entry(image, at + CLIENT_ENTRY_AT, v.entry);
+    put32(image, at + GIVEN_AT, v.given.0);
 }
 
+#[tactic(auto, unfolding(crate::specs::Records::client_plain, crate::specs::Lists::part))]
 pub fn client_plain(b: &[u8]) -> bool
     requires { length b.now ≡ client_width }
     ensures { result ≡ client_plain b.now }
 {
-    if LAST_PHASE < b[PHASE_AT] {
-        return false;
-    }
-    let request = get16(b, CLIENT_REQUEST_AT);
-    if !untagged_zero(b[PHASE_AT], request) {
-        return false;
-    }
-    entry_plain(&b[CLIENT_ENTRY_AT..CLIENT_ENTRY_AT + ENTRY])
+    b[PHASE_AT] <= LAST_PHASE
+        && untagged_zero(b[PHASE_AT], get16(b, CLIENT_REQUEST_AT))
+        && entry_plain(&b[CLIENT_ENTRY_AT..CLIENT_ENTRY_AT + ENTRY])
 }
 
 // "Message: kind u8 ..., sender u8 ..., view u8 ..., taken u8 (0 or 1) and request u16 ..., next u16 ..., entry"
+#[tactic(auto, unfolding(crate::specs::Records::message_of, crate::specs::Lists::part))]
 pub fn read_message(b: &[u8]) -> Message
     requires { length b.now ≡ message_width }
     ensures { result ≡ message_of b.now }
 {
-    let request = get16(b, MESSAGE_REQUEST_AT);
-    let next = get16(b, NEXT_AT);
-    let entry = read_entry(&b[MESSAGE_ENTRY_AT..MESSAGE_ENTRY_AT + ENTRY]);
-    let taken = b[TAKEN_AT] != 0;
     Message {
         kind: b[MESSAGE_KIND_AT],
         sender: b[SENDER_AT],
         view: ViewNumber(b[MESSAGE_VIEW_AT]),
-        taken: taken,
-        request: MessageNumber(request),
-        next: MessageNumber(next),
-        entry: entry,
+        taken: b[TAKEN_AT] != 0,
+        request: MessageNumber(get16(b, MESSAGE_REQUEST_AT)),
+        next: MessageNumber(get16(b, NEXT_AT)),
+        entry: read_entry(&b[MESSAGE_ENTRY_AT..MESSAGE_ENTRY_AT + ENTRY]),
     }
 }
 
+#[tactic(auto, using(crate::specs::Lists::put_more), unfolding(crate::specs::Records::message_bytes))]
 pub fn write_message(image: &mut [u8], at: usize, v: Message)
     requires { at + message_width ≤ length image.old }
     ensures { image.new ≡ put image.old at (message_bytes v) }
 {
-    let view = v.view;
-    let request = v.request;
-    let next = v.next;
-    let entry = v.entry;
-    let entry_at = at + MESSAGE_ENTRY_AT;
     put8(image, at + MESSAGE_KIND_AT, v.kind);
     put8(image, at + SENDER_AT, v.sender);
-    put8(image, at + MESSAGE_VIEW_AT, view.0);
+    put8(image, at + MESSAGE_VIEW_AT, v.view.0);
     put8(image, at + TAKEN_AT, v.taken as u8);
-    put16(image, at + MESSAGE_REQUEST_AT, request.0);
-    put16(image, at + NEXT_AT, next.0);
-    write_entry(image, entry_at, entry);
+    put16(image, at + MESSAGE_REQUEST_AT, v.request.0);
+    put16(image, at + NEXT_AT, v.next.0);
+    write_entry(image, at + MESSAGE_ENTRY_AT, v.entry);
 }
 
+#[tactic(auto, unfolding(crate::specs::Records::message_plain, crate::specs::Lists::part))]
 pub fn message_plain(b: &[u8]) -> bool
     requires { length b.now ≡ message_width }
     ensures { result ≡ message_plain b.now }
 {
-    if 1 < b[TAKEN_AT] {
-        return false;
-    }
-    entry_plain(&b[MESSAGE_ENTRY_AT..MESSAGE_ENTRY_AT + ENTRY])
+    b[TAKEN_AT] <= 1 && entry_plain(&b[MESSAGE_ENTRY_AT..MESSAGE_ENTRY_AT + ENTRY])
 }
 
 // "ending u8 (0 or 1), END number u16 (0 unless ending)"
-fn ending_of(tag: u8, end: MessageNumber) -> Ending
+#[tactic(auto, unfolding(crate::specs::Records::ending_of))]
+fn ending_of(tag: u8, end: MessageNumber) -> Option<MessageNumber>
     ensures { result ≡ ending_of tag end.0 }
 {
-    if tag == 0 {
-        return Ending::Settled;
-    }
-    Ending::EndSent(end)
+    if tag == 0 { None } else { Some(end) }
 }
 
-fn ending_tag(e: Ending) -> u8
-    ensures { result ≡ bit (is_ending e) }
-{
-    match e {
-        Ending::Settled => 0,
-        Ending::EndSent(_) => 1,
-    }
-}
-
-fn ending_number(e: Ending) -> MessageNumber
-    ensures { result.0 ≡ end_of e }
-{
-    match e {
-        Ending::Settled => MessageNumber(0),
-        Ending::EndSent(n) => n,
-    }
-}
-
+#[tactic(auto, unfolding(crate::specs::Records::administrator_of))]
 pub fn read_administrator(b: &[u8]) -> Administrator
     requires { length b.now ≡ administrator_width }
     ensures { result ≡ administrator_of b.now }
 {
-    let end = get16(b, END_AT);
-    let ending = ending_of(b[ENDING_AT], MessageNumber(end));
     Administrator {
         newest: ViewNumber(b[NEWEST_AT]),
-        ending: ending,
+        ending: ending_of(b[ENDING_AT], MessageNumber(get16(b, END_AT))),
     }
 }
 
+#[tactic(auto, using(crate::specs::Lists::put_more), unfolding(crate::specs::Records::administrator_bytes))]
 pub fn write_administrator(image: &mut [u8], at: usize, v: Administrator)
     requires { at + administrator_width ≤ length image.old }
     ensures { image.new ≡ put image.old at (administrator_bytes v) }
 {
-    let newest = v.newest;
-    let ending = v.ending;
-    let end = ending_number(ending);
-    put8(image, at + NEWEST_AT, newest.0);
-    put8(image, at + ENDING_AT, ending_tag(ending));
-    put16(image, at + END_AT, end.0);
+    put8(image, at + NEWEST_AT, v.newest.0);
+    put8(image, at + ENDING_AT, v.ending.is_some() as u8);
+    put16(image, at + END_AT, v.end().0);
 }
 
+#[tactic(auto, unfolding(crate::specs::Records::administrator_plain))]
 pub fn administrator_plain(b: &[u8]) -> bool
     requires { length b.now ≡ administrator_width }
     ensures { result ≡ administrator_plain b.now }
 {
-    if 1 < b[ENDING_AT] {
-        return false;
-    }
-    let end = get16(b, END_AT);
-    untagged_zero(b[ENDING_AT], end)
+    b[ENDING_AT] <= 1 && untagged_zero(b[ENDING_AT], get16(b, END_AT))
 }
 
 // "Header: version u16, messages used u16, ..., 8 zero bytes."
+#[tactic(auto, unfolding(crate::specs::Records::header_plain, crate::specs::Lists::part))]
 pub fn header_plain(b: &[u8]) -> bool
     requires { length b.now ≡ header_width }
     ensures { result ≡ header_plain b.now }
 {
-    if get16(b, VERSION_AT) != VERSION {
-        return false;
-    }
-    if !administrator_plain(&b[ADMINISTRATOR_AT..ADMINISTRATOR_AT + ADMINISTRATOR]) {
-        return false;
-    }
-    are_zero(b, HEADER_SPARE_AT, HEADER_SPARE)
+    get16(b, VERSION_AT) == VERSION
+        && administrator_plain(&b[ADMINISTRATOR_AT..ADMINISTRATOR_AT + ADMINISTRATOR])
+        && are_zero(b, HEADER_SPARE_AT, HEADER_SPARE)
 }
 
 // "Step, 12 bytes: kind u8, who u8, view u8, f u8, message u16, source u16, value u32."
+#[tactic(auto, unfolding(protocol::specs::Runs::step_of))]
 pub fn read_step(b: &[u8]) -> Step
     requires { length b.now ≡ step_width }
     ensures { result ≡ step_of b.now }
 {
-    let message = get16(b, STEP_MESSAGE_AT);
-    let source = get16(b, SOURCE_AT);
-    let value = get32(b, STEP_VALUE_AT);
     Step {
         kind: b[STEP_KIND_AT],
         who: b[WHO_AT],
         view: ViewNumber(b[STEP_VIEW_AT]),
         f: b[STEP_THRESHOLD_AT],
-        message: MessageNumber(message),
-        source: MessageNumber(source),
-        value: value,
+        message: MessageNumber(get16(b, STEP_MESSAGE_AT)),
+        source: MessageNumber(get16(b, SOURCE_AT)),
+        value: get32(b, STEP_VALUE_AT),
     }
 }

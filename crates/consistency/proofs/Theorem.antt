@@ -1,9 +1,8 @@
 -- Demand 3 on the bytes (specs/Theorem.antt), for runs and for journals: `linearizable_images` and `linearizable_journals`.
 -- `never_again`: no run gives a stamp twice, whatever is faulty. `run_reported` says that the premise report on which they rest is an
 -- answer and no refusal. Assumes nothing.
-use Rattle.std.specs.Prelude.{ℕ, Bool, true, ◌≡◌, refl, List}
+use Rattle.std.specs.Prelude.{ℕ, Bool, true, ◌≡◌, refl, List, Some}
 use Rattle.std.proofs.Common.{sym, ap, subst, ◌∙◌, eq-eqb}
-use Rattle.std.proofs.Math.Option.{some}
 use Rattle.protocol.specs.Tools.{done, guard, passed}
 use Rattle.protocol.specs.Worlds.{World, premise}
 use Rattle.protocol.specs.declared.Entry.{Entry}
@@ -55,7 +54,7 @@ linearizable_images buffer members f r e steps p =
 -- operations of the run whose entries have one stamp are one
 pub never_again : (buffer : List ℕ) (members f r : ℕ) → (fresh_on buffer members f r).refusal ≡ 0 → (steps : List (List ℕ)) → (x y : Operation)
     → In x (history (run_from (fresh_on buffer members f r).image steps)) → In y (history (run_from (fresh_on buffer members f r).image steps))
-    → x.kind ≡ WRITES → y.kind ≡ WRITES → {e g : Entry} → x.entry ≡ some e → y.entry ≡ some g → count_of e ≡ count_of g → writer_of e ≡ writer_of g → x ≡ y
+    → x.kind ≡ WRITES → y.kind ≡ WRITES → {e g : Entry} → x.entry ≡ Some e → y.entry ≡ Some g → count_of e ≡ count_of g → writer_of e ≡ writer_of g → x ≡ y
 never_again buffer members f r e steps x y i j p q u v k l =
     let b = began buffer members f r e in
     let s = run_from_same _ b.world steps b.spells in

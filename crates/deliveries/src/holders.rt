@@ -8,18 +8,18 @@ ghost use Rattle.deliveries.specs.Holders.{raised, gained};
 use codec::places::{load_holders, store_holders, store_server};
 use protocol::limits::VIEWS;
 use protocol::{KeySet, Server, ServerNumber, ViewNumber};
-use values::sets::{has_key, key_of};
+use values::sets::{alone, has};
 
 // One more faulty server holds each of these keys.
 pub fn raise(image: &mut [u8], keys: KeySet)
     requires { Legible image.old }
     ensures { image.new ≡ raised image.old keys.0 views }
 {
-    for k in 0..VIEWS {
-        let t = ViewNumber(k + 1);
-        let held = has_key(keys, t);
+    // Not 1..=VIEWS, whose flag for the last turn stays in the compiled loop.
+    for number in 1..VIEWS + 1 {
+        let t = ViewNumber(number);
         let n = load_holders(image, t);
-        store_holders(image, t, n + held as u8);
+        store_holders(image, t, n + has(keys, t) as u8);
     }
 }
 
@@ -28,11 +28,8 @@ pub fn keep_started(image: &mut [u8], s: ServerNumber, b: Server, t: ViewNumber)
     requires { Legible image.old × (1 ≤ s.0) × (s.0 ≤ servers) }
     ensures { image.new ≡ put_server (gained image.old b t.0) s.0 b }
 {
-    if !b.faulty {
-        store_server(image, s, b);
-        return;
+    if b.faulty {
+        raise(image, alone(t));
     }
-    let key = key_of(t);
-    raise(image, key);
     store_server(image, s, b);
 }

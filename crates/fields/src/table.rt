@@ -3,7 +3,6 @@ ghost use Rattle.std.specs.Prelude.{◌≡◌, ◌<◌};
 ghost use Rattle.protocol.specs.Steps.{row_of, in_row, who_named, who_used, who_range};
 
 use protocol::Range;
-use protocol::kinds::RESTART_STEP;
 use protocol::limits::{CLIENTS, MESSAGES, SERVERS, VIEWS};
 
 // A flag for each field that a step may use; who is a client, a server or a read size.
@@ -70,55 +69,53 @@ pub const SOURCE_RANGE: Range = Range {
 
 pub const VALUE_RANGE: Range = Range {
     low: 0,
-    high: 4294967295,
+    high: u32::MAX,
 };
 
-// The row of a kind, without a field where there is no such kind.
-pub fn row_of(kind: u8) -> u8
-    ensures { result ≡ row_of kind }
-{
-    if RESTART_STEP < kind {
-        return 0;
-    }
-    FIELDS[kind as usize]
-}
+// A row of the table.
+#[derive(Clone, Copy, Debug, PartialEq, Eq)]
+pub struct Row(pub u8);
 
-// Whether a row has a field.
-pub fn uses(row: u8, flag: u8) -> bool
-    requires { 0 < flag }
-    ensures { result ≡ in_row row flag }
-{
-    row / flag % 2 == 1
-}
+impl Row {
+    // The row of a kind, without a field where there is no such kind.
+    #[tactic(auto, using(std::proofs::lemmas::Option::gets), unfolding(protocol::specs::Steps::row_of))]
+    pub fn of(kind: u8) -> Row
+        ensures { result.0 ≡ row_of kind }
+    {
+        Row(FIELDS.get(kind as usize).copied().unwrap_or(0))
+    }
 
-// who is the number of a client or of a server.
-pub fn who_named(row: u8) -> bool
-    ensures { result ≡ who_named row }
-{
-    if uses(row, CLIENT) {
-        return true;
+    // Whether it has a field.
+    pub fn uses(self, flag: u8) -> bool
+        requires { 0 < flag }
+        ensures { result ≡ in_row self.0 flag }
+    {
+        self.0 / flag % 2 == 1
     }
-    uses(row, SERVER)
-}
 
-// It is that, a read size or unused.
-pub fn who_used(row: u8) -> bool
-    ensures { result ≡ who_used row }
-{
-    if who_named(row) {
-        return true;
+    // who is the number of a client or of a server.
+    pub fn who_named(self) -> bool
+        ensures { result ≡ who_named self.0 }
+    {
+        self.uses(CLIENT) || self.uses(SERVER)
     }
-    uses(row, SIZE)
-}
 
-pub fn who_range(row: u8) -> Range
-    ensures { result ≡ who_range row }
-{
-    if uses(row, CLIENT) {
-        return CLIENT_RANGE;
+    // It is that, a read size or unused.
+    pub fn who_used(self) -> bool
+        ensures { result ≡ who_used self.0 }
+    {
+        self.who_named() || self.uses(SIZE)
     }
-    if uses(row, SERVER) {
-        return SERVER_RANGE;
+
+    pub fn who_range(self) -> Range
+        ensures { result ≡ who_range self.0 }
+    {
+        if self.uses(CLIENT) {
+            CLIENT_RANGE
+        } else if self.uses(SERVER) {
+            SERVER_RANGE
+        } else {
+            READ_RANGE
+        }
     }
-    READ_RANGE
 }

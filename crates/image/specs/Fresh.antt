@@ -1,12 +1,11 @@
 -- The fresh world's image. Assumes nothing.
-use Rattle.std.specs.Prelude.{◌≡◌, refl, Bool, true, false, List, ◌++◌, ℕ, zero, suc, ◌+◌, ◌*◌, ◌-◌, ◌≤◌, length, replicate, eqb}
-use Rattle.std.proofs.Common.{sym, ap, ap₂, ◌∙◌, not-suc-le-zero, add-one, arith, get_or-set_same, get_or-set_other}
+use Rattle.std.specs.Prelude.{◌≡◌, refl, Bool, true, false, List, ◌++◌, ℕ, zero, suc, ◌+◌, ◌*◌, ◌-◌, ◌≤◌, length, replicate, eqb, None}
+use Rattle.std.proofs.Common.{sym, ap, ap₂, ◌∙◌, not-suc-le-zero, arith, get_or-set_same, get_or-set_other}
 use Rattle.std.proofs.Math.Decide.{dec_lt}
 use Rattle.std.proofs.lemmas.List.{length-replicate, get_or-replicate, replicate-append-replicate}
 use Rattle.protocol.specs.declared.View.{View}
 use Rattle.protocol.specs.declared.Server.{Server}
 use Rattle.protocol.specs.declared.Administrator.{Administrator}
-use Rattle.protocol.specs.declared.Ending.TheVariants.{Settled}
 use Rattle.protocol.specs.Tools.{if, holds, nth, replace, Result, refused, done, guard}
 use Rattle.protocol.specs.Sizes.{clients, servers, views, messages}
 use Rattle.protocol.specs.Entries.{empty}
@@ -120,7 +119,7 @@ seeded_servers w bits (suc n) = rw (seeded_servers w bits n)
 -- ---- the bytes before the servers are stored
 
 abbrev pub first_view : Administrator
-first_view = record { newest = record { 0 = 1 }; ending = Settled }
+first_view = record { newest = record { 0 = 1 }; ending = None }
 
 -- a world of zeros but for its newest view
 blank : World
@@ -216,10 +215,7 @@ pub fresh_stored : (i : List ℕ) (v : View) → length i ≡ image_size
 fresh_stored i v e =
     ap (λ (n : ℕ). seeded (put_view (put_administrator (put (zeros n) version_place (le16 version)) first_view) 1 v) v.members.0 servers) e ∙ fresh_image v
 
-pub seeded_start : (l : List ℕ) (bits : ℕ) → seeded l bits 0 ≡ l
+pub seeded_next : (l : List ℕ) (bits n : ℕ) → 1 ≤ n → seeded l bits n ≡ put_server (seeded l bits (n - 1)) n (fresh_server bits n)
 unfolding seeded
-seeded_start l bits = refl
-
-pub seeded_more : (l : List ℕ) (bits n : ℕ) → seeded l bits (n + 1) ≡ put_server (seeded l bits n) (n + 1) (fresh_server bits (n + 1))
-unfolding seeded
-seeded_more l bits n = rw add-one
+seeded_next l bits zero h = absurd (omega arith)
+seeded_next l bits (suc n) h = let e : suc n - 1 ≡ n = omega arith in rw e

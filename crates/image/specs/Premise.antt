@@ -1,20 +1,19 @@
 -- The premise report of an image, and the premise by the bytes beside its views (`premise_bytes`). Assumes nothing.
-use Rattle.std.specs.Prelude.{◌≡◌, Bool, true, false, List, ℕ, zero, suc, ◌+◌, ◌*◌, ◌-◌, ◌≤◌, ◌<◌, length, get_or, leb, eqb}
+use Rattle.std.specs.Prelude.{◌≡◌, refl, Bool, ◌&&◌, true, List, ℕ, zero, suc, ◌+◌, ◌*◌, ◌-◌, ◌≤◌, ◌<◌, length, get_or, leb, eqb}
 use Rattle.std.proofs.Common.{sym, ap, ◌∙◌, add-zero, arith, le-leb}
 use Rattle.std.proofs.Math.Decide.{dec_lt}
-use Rattle.protocol.specs.Tools.{count_to, all_to, Result, refused, done, guard}
+use Rattle.std.proofs.Math.Bool.{and-true, and_assoc}
+use Rattle.protocol.specs.Tools.{count_to, all_to, Result, done, guard}
 use Rattle.protocol.specs.Sizes.{servers, views}
 use Rattle.protocol.specs.Worlds.{view, newest, bad, premise}
 use Rattle.protocol.specs.Runs.{u32_at}
-use Rattle.protocol.proofs.Laws.Tests.{by_test, clash, all_to_at, all_to_lem}
+use Rattle.protocol.proofs.Laws.Tests.{all_to_at, all_to_lem}
 use Rattle.protocol.proofs.Laws.Formed.{formed}
 use Rattle.codec.specs.Layout.{image_size, holders_at, holder_place, holder_width}
 use Rattle.codec.specs.Places.{view_at, holder_at}
 use Rattle.codec.specs.Images.{decode}
 use Rattle.codec.specs.Laws.{view_decode}
 use Rattle.codec.specs.Whole.{plain_image}
-use Rattle.image.specs.declared.premise.Report.{Report}
-use Rattle.image.specs.declared.premise.Report.TheVariants.{Refused, Holds, Fails}
 use Rattle.readable.specs.Tests.{as_one}
 use Rattle.key_holders.specs.Holders.{holders_count, holders_beyond}
 use Rattle.readable.specs.Readable.{readable, read}
@@ -69,29 +68,22 @@ none_held i k e =
     let zero : holder_at i (k + j) ≡ 0 = ap (λ (n : ℕ). get_or i n 0) at ∙ zero_byte i (holders_at + holder_width * k) e (j - 1) (omega arith) in
     rw zero (le-leb 0 (view_at i (k + j)).f (omega arith)))
 
--- one group more
-pub group_more : (i : List ℕ) (k : ℕ) → all_to (within i) k ≡ true → all_to (λ j. within i (k + j)) group ≡ true → all_to (within i) (k + group) ≡ true
-group_more i k p q =
-    all_to_lem (within i) (k + group)
-    (λ t a b.
-    elim (dec_lt k t) [
-      | yes h ↦
-          let e : t ≡ k + (t - k) = omega arith in
-          rw e (all_to_at (λ j. within i (k + j)) group (t - k) q (omega arith) (omega arith))
-      | no h ↦ all_to_at (within i) k t p a (omega arith)
-    ])
+-- all groups of the views, one after another
+all_add : (p : ℕ → Bool) (a b : ℕ) → all_to p (a + b) ≡ all_to p a && all_to (λ j. p (a + j)) b
+unfolding all_to
+all_add p a zero = rw add-zero (sym (and-true (all_to p a)))
+all_add p a (suc b) =
+    let e : a + suc b ≡ suc (a + b) = omega arith in
+    rw e (ap (λ (t : Bool). t && p (suc (a + b))) (all_add p a b) ∙ and_assoc (all_to p a) (all_to (λ j. p (a + j)) b) (p (suc (a + b))))
 
-pub group_fails : (i : List ℕ) (k n : ℕ) → k + group ≤ n → all_to (λ j. within i (k + j)) group ≡ false → all_to (within i) n ≡ false
-group_fails i k n h e =
-    by_test (all_to (within i) n)
-    (λ p. clash (all_to_lem (λ j. within i (k + j)) group (λ j a b. all_to_at (within i) n (k + j) p (omega arith) (omega arith))) e) (λ p. p)
+pub all_groups : (p : ℕ → Bool) (n : ℕ) → all_to (λ g. all_to (λ j. p (group * (g - 1) + j)) group) n ≡ all_to p (group * n)
+unfolding all_to
+all_groups p zero = refl
+all_groups p (suc n) =
+    let e : group * suc n ≡ group * n + group = omega arith in
+    let d : suc n - 1 ≡ n = omega arith in
+    rw (e, d, all_groups p n) (sym (all_add p (group * n) group))
 
 -- "Premise report: 1, 2.", else the answer
 unfoldable pub premise_on : List ℕ → Result Bool
 premise_on i = guard (eqb (length i) image_size) 1 (guard (readable i) 2 (done (premise (decode i))))
-
--- the number and the value of each case of the answer
-abbrev pub reported : Report → Result Bool
-reported (Refused n) = refused n
-reported Holds = done true
-reported Fails = done false

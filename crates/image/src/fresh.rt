@@ -1,5 +1,6 @@
 // The fresh world.
 ghost use Rattle.std.specs.Prelude.{◌≡◌, ◌≤◌, length};
+ghost use Rattle.protocol.specs.Refusals.{code};
 ghost use Rattle.protocol.specs.Sizes.{servers};
 ghost use Rattle.protocol.specs.Worlds.{fresh_server, fresh_world};
 ghost use Rattle.codec.specs.Layout.{image_size};
@@ -10,28 +11,20 @@ use codec::bytes::{clear, put16};
 use codec::layout::{IMAGE, VERSION, VERSION_AT};
 use codec::places::{store_administrator, store_server, store_view};
 use protocol::limits::SERVERS;
-use protocol::refusals::{WRONG_LENGTH, WRONG_SIZE};
 use protocol::{
-    Administrator, Ending, Entry, KeySet, Server, ServerNumber, ServerSet, Stamp, StampCount, View,
-    ViewNumber,
+    Administrator, Entry, KeySet, Refusal, Server, ServerNumber, ServerSet, View, ViewNumber,
 };
-use values::sets::has_server;
+use values::sets::has;
 use values::sizes::sized;
 
 fn server_of(view: ViewNumber, keys: KeySet) -> Server
     ensures { result ≡ idle_server view.0 keys.0 }
 {
     Server {
-        view: view,
+        view,
         faulty: false,
-        keys: keys,
-        entry: Entry {
-            stamp: Stamp {
-                count: StampCount(0),
-                writer: 0,
-            },
-            value: 0,
-        },
+        keys,
+        entry: Entry::default(),
     }
 }
 
@@ -40,55 +33,56 @@ fn fresh_server(members: ServerSet, s: ServerNumber) -> Server
     requires { (1 ≤ s.0) × (s.0 ≤ servers) }
     ensures { result ≡ fresh_server members.0 s.0 }
 {
-    if has_server(members, s) {
-        return server_of(ViewNumber(1), KeySet(1));
+    if has(members, s) {
+        server_of(ViewNumber(1), KeySet(1))
+    } else {
+        server_of(ViewNumber(0), KeySet(0))
     }
-    server_of(ViewNumber(0), KeySet(0))
 }
 
 fn store_servers(image: &mut [u8], members: ServerSet)
     requires { length image.old ≡ image_size }
     ensures { image.new ≡ seeded image.old members.0 servers }
 {
-    for k in 0..SERVERS {
-        let s = ServerNumber(k + 1);
-        let v = fresh_server(members, s);
-        store_server(image, s, v);
+    for s in 1..=SERVERS {
+        let s = ServerNumber(s);
+        store_server(image, s, fresh_server(members, s));
     }
 }
 
 // "all else is zero but version and newest view 1"
+#[tactic(auto, using(crate::specs::Fresh::fresh_stored))]
 fn store_fresh(image: &mut [u8], v: View)
     requires { length image.old ≡ image_size }
     ensures { image.new ≡ encode (fresh_world v) }
 {
     let a = Administrator {
         newest: ViewNumber(1),
-        ending: Ending::Settled,
+        ending: None,
     };
     clear(image);
     put16(image, VERSION_AT, VERSION);
     store_administrator(image, a);
     store_view(image, ViewNumber(1), v);
-    let members = v.members;
-    store_servers(image, members);
+    store_servers(image, v.members);
 }
 
 // "Fresh world (member bits, f)", and r: "1, buffer not" an image's length "; 8, size rule broken."
-pub fn fresh(image: &mut [u8], members: u32, f: u8, r: u8) -> u8
-    ensures { (result ≡ (fresh_on image.old members f r).refusal) × (image.new ≡ (fresh_on image.old members f r).image) }
+#[tactic(auto, unfolding(crate::specs::Fresh::fresh_on, protocol::specs::Tools::guard, protocol::specs::Worlds::fresh))]
+pub fn fresh(image: &mut [u8], members: u32, f: u8, r: u8) -> Result<(), Refusal>
+    ensures { (code result ≡ (fresh_on image.old members f r).refusal) × (image.new ≡ (fresh_on image.old members f r).image) }
 {
     if image.len() != IMAGE {
-        return WRONG_LENGTH;
+        return Err(Refusal::WrongLength);
     }
     let v = View {
         members: ServerSet(members),
-        f: f,
-        r: r,
+        f,
+        r,
     };
     if !sized(v) {
-        return WRONG_SIZE;
+        return Err(Refusal::WrongSize);
     }
     store_fresh(image, v);
-    0
+    Ok(())
 }

@@ -1,16 +1,18 @@
 -- What the code of `watch` answers, in words: `Watches`, and `noticed`, the step named so far. Assumes nothing.
-use Rattle.std.specs.Prelude.{ℕ, ◌≡◌, List, eqb}
+use Rattle.std.specs.Prelude.{ℕ, ◌≡◌, List, Option, None, Some}
 use Rattle.protocol.specs.Tools.{if}
 use Rattle.protocol.specs.Worlds.{World, premise}
+use Rattle.mail.specs.Images.{some_of}
 use Rattle.journal.specs.declared.Watched.{Watched as Answer}
 use Rattle.journal.specs.Replays.{Plays}
 use Rattle.journal.specs.Watch.{Watched}
 
 -- the function answered r and left the image l, as p
 pub record Watches (r : Answer) (l : List ℕ) (p : Watched) : Type 0 where
-  pub replay : Plays (record { steps = r.steps; refusal = r.refusal }) l p.played
-  pub first : r.first ≡ p.first
+  pub replay : Plays r.replayed l p.played
+  pub first : r.first ≡ some_of p.first
 
 -- the step named so far, or, after a step that led to w, this one
-abbrev pub noticed : World → ℕ → ℕ → ℕ
-noticed w named n = if (eqb named 0) (if (premise w) 0 n) named
+abbrev pub noticed : World → Option ℕ → ℕ → Option ℕ
+noticed w None n = if (premise w) None (Some n)
+noticed w (Some m) n = Some m

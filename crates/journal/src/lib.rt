@@ -4,17 +4,18 @@
 pub mod replay;
 pub mod watch;
 
-// The number of steps done, and the refusal that stopped the replay, or 0.
-#[derive(Clone, Copy)]
+use protocol::Refusal;
+
+// The number of steps done, and the refusal that stopped the replay, if one did.
+#[derive(Clone, Copy, Debug, PartialEq, Eq)]
 pub struct Replayed {
     pub steps: usize,
-    pub refusal: u8,
+    pub refusal: Option<Refusal>,
 }
 
-// The same, and the first step after which the premise does not hold, or 0.
-#[derive(Clone, Copy)]
+// A replay, and the first step after which the premise does not hold, if there is one.
+#[derive(Clone, Copy, Debug, PartialEq, Eq)]
 pub struct Watched {
-    pub steps: usize,
-    pub refusal: u8,
-    pub first: usize,
+    pub replayed: Replayed,
+    pub first: Option<usize>,
 }

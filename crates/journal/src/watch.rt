@@ -8,25 +8,22 @@ ghost use Rattle.mail.specs.Images.{Legible};
 ghost use Rattle.journal.specs.Watch.{broken_from, watch_on};
 ghost use Rattle.journal.specs.Watches.{Watches, noticed};
 
-use super::Watched;
-use super::replay::first;
-use codec::layout::{IMAGE, STEP};
+use super::replay::admits;
+use super::{Replayed, Watched};
+use codec::layout::STEP;
 use image::premise::premise_holds;
-use mail::Stepped;
-use readable::readable::readable;
+use world::step::advance;
 
 // The step named so far; or, where there is none, step n if the premise does not hold after it.
-fn notice(image: &[u8], named: usize, n: usize) -> usize
+fn notice(image: &[u8], named: Option<usize>, n: usize) -> Option<usize>
     requires { Legible image.now }
     ensures { result ≡ noticed (decode image.now) named n }
 {
-    if named != 0 {
-        return named;
+    if named.is_some() || premise_holds(image) {
+        named
+    } else {
+        Some(n)
     }
-    if premise_holds(image) {
-        return 0;
-    }
-    n
 }
 
 // "beside a stop too": on a readable image, a journal of whole steps.
@@ -35,25 +32,24 @@ fn observe(image: &mut [u8], journal: &[u8]) -> Watched
     ensures { Watches result image.new
         (record { played = played (replay_of (decode image.old) (steps_of journal.now)); first = broken_from 0 (decode image.old) (steps_of journal.now) }) }
 {
-    let mut at = 0usize;
-    let mut named = 0usize;
-    while at < journal.len() {
-        let r = first(image, &journal[at..]);
-        if let Stepped::StepRefused(n) = r {
-            return Watched {
-                steps: at / STEP,
-                refusal: n,
-                first: named,
+    let mut steps = 0;
+    let mut first = None;
+    for step in journal.chunks_exact(STEP) {
+        if let Err(refusal) = advance(image, step) {
+            let replayed = Replayed {
+                steps,
+                refusal: Some(refusal),
             };
+            return Watched { replayed, first };
         }
-        at += STEP;
-        named = notice(image, named, at / STEP);
+        steps += 1;
+        first = notice(image, first, steps);
     }
-    Watched {
-        steps: at / STEP,
-        refusal: 0,
-        first: named,
-    }
+    let replayed = Replayed {
+        steps,
+        refusal: None,
+    };
+    Watched { replayed, first }
 }
 
 // "A second form of replay also names, beside a stop too, the first accepted step after which the premise does not hold, or 0.": for
@@ -61,27 +57,17 @@ fn observe(image: &mut [u8], journal: &[u8]) -> Watched
 pub fn watch(image: &mut [u8], journal: &[u8]) -> Watched
     ensures { Watches result image.new (watch_on image.old journal.now) }
 {
-    if image.len() != IMAGE {
-        return Watched {
-            steps: 0,
-            refusal: 1,
-            first: 0,
-        };
+    match admits(image, journal) {
+        Ok(()) => observe(image, journal),
+        Err(refusal) => {
+            let replayed = Replayed {
+                steps: 0,
+                refusal: Some(refusal),
+            };
+            Watched {
+                replayed,
+                first: None,
+            }
+        }
     }
-    if journal.len() % STEP != 0 {
-        return Watched {
-            steps: 0,
-            refusal: 1,
-            first: 0,
-        };
-    }
-    let legible = readable(image);
-    if !legible {
-        return Watched {
-            steps: 0,
-            refusal: 2,
-            first: 0,
-        };
-    }
-    observe(image, journal)
 }

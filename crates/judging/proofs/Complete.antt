@@ -4,11 +4,10 @@
 use Prim.Native.Nat.{ℕ, zero, suc, ◌≤◌, ◌<◌, ◌^◌}
 use Rattle.std.proofs.Math.Decide.{dec_lt}
 use native.Mathlib.Omega.{arith}
-use Rattle.std.specs.Prelude.{Bool, false, ◌&&◌, ◌||◌, ◌≡◌, ◌⊎◌, ltb, eqb}
+use Rattle.std.specs.Prelude.{Bool, false, ◌&&◌, ◌||◌, ◌≡◌, ◌⊎◌, ltb, eqb, Some}
 use Rattle.std.proofs.Math.Bool.{true}
 use Rattle.std.proofs.Math.Path.{refl}
 use Rattle.std.proofs.Common.{sym, ap, subst, ◌∙◌, inl, inr}
-use Rattle.std.proofs.Math.Option.{some}
 use mathlib.Core.List.{List, [], ◌∷◌}
 use Rattle.std.proofs.Math.Dec.{leb}
 use borrow.Author.Tests.{le-leb, eq-eqb, ne_eqb}
@@ -141,7 +140,7 @@ module _ (line : ℕ → Logged) (n : ℕ) (f : Fine line n) (order : List Opera
   source : (i : ℕ) → In i s → (line i).kind ≡ READS → Source line empty s i
   source i m k = go (returned_from g.ordered.reads (placed i m) k)
     where
-      go : From (some empty) order (op line i) → Source line empty s i
+      go : From (Some empty) order (op line i) → Source line empty s i
       go (held q) = kept (some_is q)
       go (from w t q b) =
           let r = found (before_in b) in
@@ -180,7 +179,7 @@ module _ (line : ℕ → Logged) (n : ℕ) (f : Fine line n) (order : List Opera
       write_read : (line i).end < (line j).begin → (line j).kind ≡ WRITES → (line i).kind ≡ READS → ⊥
       write_read c p q = go (returned_from g.ordered.reads (placed i m) q)
         where
-          go : From (some empty) order (op line i) → ⊥
+          go : From (Some empty) order (op line i) → ⊥
           go (held z) = omega (arith, level c, ap stamp_rank (some_is z), asks.above j k p)
           go (from w t z b) =
               let x = found (before_in b) in

@@ -5,7 +5,7 @@ pub mod Complete
 pub mod Logs
 pub mod Verdict
 pub mod Examples
-pub mod Ways
+pub mod Ranges
 pub mod Sorting
 pub mod Walks
 pub mod Answering

@@ -1,8 +1,7 @@
 -- Lists of operations: members of images and of numbered lists, what stands before what, and what an order's `Reads` tells of a
 -- read: `returned_from` (where its entry comes from) and `equal_reads` (no write between two). Used by Sound and Complete.
-use Rattle.std.specs.Prelude.{ℕ, zero, suc, ◌≤◌, ◌≡◌, refl, List, [], ◌∷◌, map}
+use Rattle.std.specs.Prelude.{ℕ, zero, suc, ◌≤◌, ◌≡◌, refl, List, [], ◌∷◌, map, Option}
 use Rattle.std.proofs.Common.{arith, sym, ap, ◌∙◌}
-use Rattle.std.proofs.Math.Option.{Option}
 use Rattle.protocol.specs.declared.Entry.{Entry}
 use Rattle.protocol.specs.Worlds.{list_to}
 use Rattle.protocol.specs.Clients.{WRITES, READS}

@@ -1,12 +1,11 @@
 -- A yes is right: if the sorted lines of a well-formed log pass both tests, their operations are an order of the log (`sorted_sound`).
 -- `line_stands` and `stands_line` tie the test `stands` to `Stands` of protocol; Complete uses them too.
-use Rattle.std.specs.Prelude.{ℕ, zero, suc, ◌≤◌, ◌<◌, ◌^◌, Bool, not, ◌&&◌, ◌||◌, ◌≡◌, ◌⊎◌, ◌↔◌, leb, eqb}
+use Rattle.std.specs.Prelude.{ℕ, zero, suc, ◌≤◌, ◌<◌, ◌^◌, Bool, not, ◌&&◌, ◌||◌, ◌≡◌, ◌⊎◌, ◌↔◌, leb, eqb, Some}
 use Rattle.std.proofs.Math.Decide.{dec_lt, ℕ_discrete}
 use native.Mathlib.Omega.{arith}
 use Rattle.std.proofs.Math.Bool.{true, false}
 use Rattle.std.proofs.Math.Path.{refl, ap}
 use Rattle.std.proofs.Common.{sym, subst, ◌∙◌, inl, inr}
-use Rattle.std.proofs.Math.Option.{some}
 use mathlib.Core.List.{List, [], ◌∷◌, map}
 use Rattle.std.proofs.Math.Dec.{ltb}
 use borrow.Author.Tests.{ltb-true, ltb-false, leb-true, eqb-true, eq-eqb, ne_eqb}
@@ -38,7 +37,7 @@ unfolding same
 is_same a b e =
     and_both _ _ (eq-eqb _ _ (ap count_of e)) (and_both _ _ (eq-eqb _ _ (ap writer_of e)) (eq-eqb _ _ (ap (λ (x : Entry). x.value) e)))
 
-pub some_is : {a b : Entry} → some a ≡ some b → a ≡ b
+pub some_is : {a b : Entry} → Some a ≡ Some b → a ≡ b
 some_is q = cc
 
 -- a number that is not 0
@@ -82,7 +81,7 @@ module _ (line : ℕ → Logged) where
   abbrev pub op : ℕ → Operation
   op i = logged_operation (line i)
 
-  answers_reads : (e : Entry) (l : List ℕ) → ((i : ℕ) → In i l → Sane (line i)) → answers line e l ≡ true → Reads (some e) (map op l)
+  answers_reads : (e : Entry) (l : List ℕ) → ((i : ℕ) → In i l → Sane (line i)) → answers line e l ≡ true → Reads (Some e) (map op l)
   unfolding along follows last_write
   answers_reads e [] s h = end
   answers_reads e (i ∷ l) s h =
@@ -93,9 +92,9 @@ module _ (line : ℕ → Logged) where
       held k (inr q) = same_is _ _ q
 
       go : ((line i).kind ≡ WRITES) ⊎ ((line i).kind ≡ READS) → (eqb (line i).kind WRITES || same (line i).entry e) ≡ true
-          → Reads (some (if (eqb (line i).kind WRITES) (line i).entry e)) (map op l) → Reads (some e) (op i ∷ map op l)
+          → Reads (Some (if (eqb (line i).kind WRITES) (line i).entry e)) (map op l) → Reads (Some e) (op i ∷ map op l)
       go (inl k) t r = write k (rw (eq-eqb (line i).kind WRITES k) at r)
-      go (inr k) t r = read k (ap some (held k (or_cases _ _ t))) (rw (ne_eqb (line i).kind WRITES (λ q. omega arith)) at r)
+      go (inr k) t r = read k (ap Some (held k (or_cases _ _ t))) (rw (ne_eqb (line i).kind WRITES (λ q. omega arith)) at r)
 
   -- the last begin is at least both
   begin_held : (b : ℕ) (x : Logged) (e : ℕ) → last_begin b x ≤ e → (b ≤ e) × (x.begin ≤ e)
@@ -205,7 +204,7 @@ module _ (line : ℕ → Logged) (n : ℕ) where
             held = line_in r.at r.low r.high;
             read = eqb-true _ _ (and_left _ _ r.test);
             completed = not_zero (line r.at).end (and_left _ _ t);
-            same = ap some (same_is _ _ (and_right (not (eqb (line r.at).end 0)) _ t));
+            same = ap Some (same_is _ _ (and_right (not (eqb (line r.at).end 0)) _ t));
           })
 
   pub stands_line : (i : ℕ) → Stands h (op line i) → stands line n i ≡ true
@@ -262,7 +261,7 @@ module _ (line : ℕ → Logged) (n : ℕ) where
     unfolding passes
     in_time = and_right (answers line empty s) _ pass
 
-    legal : Reads (some empty) (map (op line) s)
+    legal : Reads (Some empty) (map (op line) s)
     unfolding passes
     legal = answers_reads line empty s sane (and_left _ _ pass)
 
@@ -288,7 +287,7 @@ module _ (line : ℕ → Logged) (n : ℕ) where
                 absurd (omega (arith, late, (sane p.of p.member).spans ends))
 
     equal_iff : (x y : Operation) → x.kind ≡ READS → y.kind ≡ READS → Before x y (map (op line) s) → (x.entry ≡ y.entry) ↔ (Between (map (op line) s) x y → ⊥)
-    equal_iff x y k m b = (apart, λ n. equal_reads (some empty) (map (op line) s) x y legal k m b (λ z t f g. n (record { by = z; write = t; after = f; before = g })))
+    equal_iff x y k m b = (apart, λ n. equal_reads (Some empty) (map (op line) s) x y legal k m b (λ z t f g. n (record { by = z; write = t; after = f; before = g })))
       where
         stamp_at : (i j : ℕ) → (op line i).entry ≡ (op line j).entry → stamp_rank (line i).entry ≡ stamp_rank (line j).entry
         stamp_at i j e = ap stamp_rank (some_is e)
@@ -311,7 +310,7 @@ module _ (line : ℕ → Logged) (n : ℕ) where
     never_falling : NeverFalling (map (op line) s)
     never_falling = record { never = go }
       where
-        go : (x y : Operation) → Before x y (map (op line) s) → (e g : Entry) → x.entry ≡ some e → y.entry ≡ some g → e ≼ g
+        go : (x y : Operation) → Before x y (map (op line) s) → (e g : Entry) → x.entry ≡ Some e → y.entry ≡ Some g → e ≼ g
         go x y b e g p q =
             let c = pair line s rises b in
             let u : (line c.one).entry ≡ e = some_is (ap (λ (o : Operation). o.entry) c.is_one ∙ p) in

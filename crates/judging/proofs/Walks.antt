@@ -1,58 +1,20 @@
 -- The laws of the functions that go along the sorted lines, and of the one that lists them in the buffer: one for each way out,
 -- and what their loops keep (`Along`, `Listing`). Cited by the proofs of `passes` and `judge` alone.
-use Rattle.std.specs.Prelude.{ℕ, zero, suc, ◌+◌, ◌*◌, ◌-◌, ◌≤◌, ◌<◌, ◌^◌, Bool, true, false, not, ◌&&◌, ◌≡◌, refl, get_or, take, drop, leb}
-use Rattle.std.proofs.Common.{add-one, ◌∙◌, length-take, length-append, take-suc, drop-cons, take_all, eq-eqb, ne_eqb, lt-ltb, le-ltb}
+use Rattle.std.specs.Prelude.{ℕ, zero, suc, ◌+◌, ◌*◌, ◌-◌, ◌≤◌, ◌<◌, Bool, true, false, ◌&&◌, ◌≡◌, refl, get_or, take, drop}
+use Rattle.std.proofs.Common.{add-one, ◌∙◌, length-take, length-append, take-suc, drop-cons, take_all}
 use native.Mathlib.Omega.{arith}
 use Rattle.std.proofs.Math.Path.{sym, ap, ap₂}
 use mathlib.Core.List.{List, [], ◌∷◌, ◌++◌, append_assoc}
 use Rattle.std.proofs.Math.ListN.{length, replicate}
 use Rattle.std.proofs.lemmas.List.{length-replicate}
-use Rattle.std.proofs.lemmas.Bool.{not-true, not-false}
 use Rattle.protocol.specs.declared.Entry.{Entry}
-use Rattle.protocol.specs.Entries.{same}
-use Rattle.protocol.specs.Clients.{WRITES}
+use Rattle.protocol.specs.Entries.{empty}
 use Rattle.codec.specs.Bytes.{le16}
 use Rattle.codec.specs.Lists.{put, flat, length_flat, put_right}
 use Rattle.judging.specs.declared.Logged.{Logged}
-use Rattle.judging.specs.Decision.{follows, last_write, on_time, last_begin, along}
-use Rattle.judging.specs.Sorting.{Numbers}
+use Rattle.judging.specs.Decision.{follows, last_write, on_time, last_begin, along, answers, timely}
 use Rattle.judging.proofs.Sorting.{drop_all}
 use Rattle.judging.specs.Verdict.{place_width, order_bytes}
-
--- ---- one line after those before it
-
-module _ (x : Logged) where
-  pub write_follows : (e : Entry) → x.kind ≡ WRITES → true ≡ follows e x
-  unfolding follows
-  write_follows e k = rw (eq-eqb x.kind WRITES k)
-
-  pub read_follows : (e : Entry) (r : Bool) → (x.kind ≡ WRITES → ⊥) → r ≡ same x.entry e → r ≡ follows e x
-  unfolding follows
-  read_follows e r k h = rw (ne_eqb x.kind WRITES k) h
-
-  pub write_last : (e : Entry) → x.kind ≡ WRITES → x.entry ≡ last_write e x
-  unfolding last_write
-  write_last e k = rw (eq-eqb x.kind WRITES k)
-
-  pub read_last : (e : Entry) → (x.kind ≡ WRITES → ⊥) → e ≡ last_write e x
-  unfolding last_write
-  read_last e k = rw (ne_eqb x.kind WRITES k)
-
-  pub open_timely : (b : ℕ) → x.end ≡ 0 → true ≡ on_time b x
-  unfolding on_time
-  open_timely b h = rw (eq-eqb x.end 0 h)
-
-  pub done_timely : (b : ℕ) → (x.end ≡ 0 → ⊥) → leb b x.end ≡ on_time b x
-  unfolding on_time
-  done_timely b h = rw (ne_eqb x.end 0 h)
-
-  pub begin_last : (b : ℕ) → b < x.begin → x.begin ≡ last_begin b x
-  unfolding last_begin
-  begin_last b h = rw (lt-ltb b x.begin h)
-
-  pub begin_kept : (b : ℕ) → x.begin ≤ b → b ≡ last_begin b x
-  unfolding last_begin
-  begin_kept b h = rw (le-ltb b x.begin h)
 
 -- ---- the loop of a pass: the first q lines of l have passed, and s is what the next is tested with
 
@@ -61,36 +23,49 @@ module _ {S : Type 0} (line : ℕ → Logged) (test : S → Logged → Bool) (ne
     pub bound : q ≤ length l
     pub rest : along line test next s₀ l ≡ along line test next s (drop q l)
 
-  pub along_start : (s : S) → s ≡ s₀ → Along s 0
-  along_start s e = record { bound = omega arith; rest = ap (λ (t : S). along line test next t l) (sym e) }
-
   module _ (s : S) (q : ℕ) (a : Along s q) where
     here : q < length l → along line test next s₀ l ≡ (test s (line (get_or l q 0)) && along line test next (next s (line (get_or l q 0))) (drop (suc q) l))
     unfolding along
     here h = a.rest ∙ ap (along line test next s) (drop-cons l q 0 h)
 
-    module _ (h : q < length l) (x : Logged) (p : x ≡ line (get_or l q 0)) (r : Bool) (e : r ≡ test s x) where
-      tested : r ≡ test s (line (get_or l q 0))
-      tested = e ∙ ap (test s) p
+    module _ (h : q < length l) (x : Logged) (p : x ≡ line (get_or l q 0)) where
+      pub along_no : test s x ≡ false → along line test next s₀ l ≡ false
+      along_no f = here h ∙ rw (← p, f)
 
-      pub along_no : not r ≡ true → false ≡ along line test next s₀ l
-      along_no f = sym (here h ∙ rw (sym tested ∙ not-true r f))
+      pub along_more : test s x ≡ true → (t : S) → t ≡ next s x → Along t (q + 1)
+      along_more f t g = record { bound = omega arith; rest = here h ∙ rw (← p, f, ← g, add-one) }
 
-      pub along_more : not r ≡ false → (t : S) → t ≡ next s x → Along t (q + 1)
-      along_more f t g =
-          let same : next s (line (get_or l q 0)) ≡ t = ap (next s) (sym p) ∙ sym g in
-          record { bound = omega arith; rest = here h ∙ rw (sym tested ∙ not-false r f, same, add-one) }
-
-    pub along_end : length l ≤ q → true ≡ along line test next s₀ l
+    pub along_end : length l ≤ q → along line test next s₀ l ≡ true
     unfolding along
-    along_end h = sym (a.rest ∙ ap (along line test next s) (drop_all q l h))
+    along_end h = a.rest ∙ ap (along line test next s) (drop_all q l h)
 
--- the number at place q of a list of numbers of lines
-pub numbers_low : (n : ℕ) (l : List ℕ) (q : ℕ) → Numbers n l → q < length l → 1 ≤ get_or l q 0
-numbers_low n l q v h = (v.at q h).0
+-- both passes
+pub record InOrder (line : ℕ → Logged) (l : List ℕ) (last : Entry) (latest q : ℕ) : Type 0 where
+  pub answering : Along line follows last_write empty l last q
+  pub timed : Along line on_time last_begin 0 l latest q
 
-pub numbers_high : (n : ℕ) (l : List ℕ) (q : ℕ) → Numbers n l → q < length l → get_or l q 0 ≤ n
-numbers_high n l q v h = (v.at q h).1
+module _ (line : ℕ → Logged) (l : List ℕ) (last : Entry) (latest q : ℕ) (a : InOrder line l last latest q) where
+  module _ (h : q < length l) (x : Logged) (p : x ≡ line (get_or l q 0)) where
+    pub unanswered : (r : Bool) → r ≡ follows last x → r ≡ false → false ≡ answers line empty l && timely line 0 l
+    unanswered r e f = rw (along_no line follows last_write empty l last q a.answering h x p (sym e ∙ f)) refl
+
+    pub untimely : (r : Bool) → r ≡ on_time latest x → r ≡ false → false ≡ answers line empty l && timely line 0 l
+    untimely r e f = no_right _ _ (along_no line on_time last_begin 0 l latest q a.timed h x p (sym e ∙ f))
+      where
+        no_right : (u v : Bool) → v ≡ false → false ≡ u && v
+        no_right true v n = sym n
+        no_right false v n = refl
+
+    pub pass_more : (r t : Bool) → r ≡ follows last x → r ≡ true → t ≡ on_time latest x → t ≡ true
+        → (e : Entry) (b : ℕ) → e ≡ last_write last x → b ≡ last_begin latest x → InOrder line l e b (q + 1)
+    pass_more r t u f v g e b m n =
+        record {
+          answering = along_more line follows last_write empty l last q a.answering h x p (sym u ∙ f) e m;
+          timed = along_more line on_time last_begin 0 l latest q a.timed h x p (sym v ∙ g) b n;
+        }
+
+  pub pass_end : length l ≤ q → true ≡ answers line empty l && timely line 0 l
+  pass_end h = rw (along_end line follows last_write empty l last q a.answering h, along_end line on_time last_begin 0 l latest q a.timed h)
 
 -- ---- the loop that lists an order in a buffer of m bytes: its first q numbers are written
 
@@ -137,12 +112,6 @@ module _ (s : List ℕ) (m : ℕ) where
         let f = length-replicate {A = ℕ} (m - place_width * q) 0 in
         ap length a.is ∙ length-append (flat le16 (take q s)) (replicate (m - place_width * q) 0) ∙ (omega arith)
 
-    pub list_place : q < length s → length o < 2 ^ 64 → place_width * q < 2 ^ 64
-    list_place h k = let r = a.room in omega (arith, list_size)
-
-    pub list_room : q < length s → place_width * q + 2 ≤ length o
-    list_room h = let r = a.room in omega (arith, list_size)
-
     module _ (h : q < length s) where
       abbrev n : ℕ
       n = get_or s q 0
@@ -179,17 +148,3 @@ module _ (s : List ℕ) (m : ℕ) where
         let b = a.bound in
         let e : q ≡ length s = omega arith in
         a.is ∙ ap₂ (λ (x : List ℕ) (k : ℕ). flat le16 x ++ replicate (m - place_width * k) 0) (take_all q s h) e
-
--- a buffer that was cleared
-module _ (s before cleared : List ℕ) (e : cleared ≡ replicate (length before) 0) where
-  clear_length : length cleared ≡ length before
-  clear_length = ap length e ∙ length-replicate {A = ℕ} (length before) 0
-
-  pub cleared_room : place_width * length s ≤ length before → place_width * length s ≤ length cleared
-  cleared_room h = omega (arith, clear_length)
-
-  pub cleared_zeros : cleared ≡ replicate (length cleared) 0
-  cleared_zeros = e ∙ ap (λ (k : ℕ). replicate {A = ℕ} k 0) (sym clear_length)
-
-  pub cleared_listed : (after : List ℕ) → after ≡ order_bytes s (length cleared) → after ≡ order_bytes s (length before)
-  cleared_listed after q = q ∙ ap (order_bytes s) clear_length

@@ -1,13 +1,13 @@
 -- The answer to a log and a lent order buffer: `judged` computes it, `Promise` says what it means, free of the search. The function `judge`
 -- and the C interface cite these.
-use Rattle.std.specs.Prelude.{ℕ, ◌*◌, ◌-◌, ◌%◌, ◌≤◌, Bool, ◌&&◌, ◌≡◌, ◌↔◌, List, ◌++◌, map, length, replicate, eqb}
+use Rattle.std.specs.Prelude.{ℕ, ◌*◌, ◌-◌, ◌%◌, ◌≤◌, Bool, ◌&&◌, ◌≡◌, ◌↔◌, List, ◌++◌, map, length, replicate, eqb, Result as Outcome}
 use Rattle.std.proofs.Math.Bool.{true, false}
+use Rattle.protocol.specs.declared.refusals.Refusal.{Refusal}
+use Rattle.protocol.specs.Refusals.{outcome}
 use Rattle.protocol.specs.Tools.{Result, refused, done, guard}
 use Rattle.protocol.specs.Consistent.{Operation, In}
 use Rattle.codec.specs.Bytes.{le16}
 use Rattle.codec.specs.Lists.{flat}
-use Rattle.judging.specs.declared.Judgement.{Judgement}
-use Rattle.judging.specs.declared.Judgement.TheVariants.{JudgeRefused, InOrder}
 use Rattle.judging.specs.Orders.{logged_operation, operations, OrderOf}
 use Rattle.judging.specs.Decision.{sorted, passes}
 use Rattle.judging.specs.Logs.{line_width, lines_of, line_at, well_logged}
@@ -28,11 +28,6 @@ decided log = guard (passes (line_at log) (lines_of log)) 13 (done (sorted (line
 unfoldable pub judged : List ℕ → ℕ → Result (List ℕ)
 judged log m = guard (lengths_fit log m) 1 (guard (well_logged log) 14 (decided log))
 
--- an answer of the code: a refusal, or the number of operations in the order
-abbrev pub judgement : Judgement → Result ℕ
-judgement (JudgeRefused n) = refused n
-judgement (InOrder k) = done k
-
 -- the number of operations in an order
 abbrev pub operations_in : Result (List ℕ) → Result ℕ
 operations_in (refused n) = refused n
@@ -47,8 +42,8 @@ listed_in before (refused n) = before
 listed_in before (done s) = order_bytes s (length before)
 
 -- a result as the code answers it, with the buffer before and after
-pub record Judges (a : Judgement) (before after : List ℕ) (r : Result (List ℕ)) : Type 0 where
-  pub answer : judgement a ≡ operations_in r
+pub record Judges (a : Outcome ℕ Refusal) (before after : List ℕ) (r : Result (List ℕ)) : Type 0 where
+  pub answer : outcome a ≡ operations_in r
   pub buffer : after ≡ listed_in before r
 
 -- ---- what the answer means

@@ -4,192 +4,99 @@ ghost use Rattle.judging.specs.Logs.{line_width, lines_of, line_bytes, most_line
 ghost use Rattle.judging.specs.Logs.{spare, in_values, ends_later, counted, numbers_apart, stamps_apart, line_fits, apart_before, lines_fit, well_logged};
 
 use super::Logged;
-use super::log::{LOG_LINE, LOG_LINES, line, read_logged};
-use protocol::kinds::{READS, WRITES};
+use super::log::{LOG_LINE, LOG_LINES, line, line_bytes, read_logged};
+use protocol::Operation;
 use values::entries::entry_fits;
 
 // Three spare bytes are zero.
+#[tactic(auto, unfolding(crate::specs::Logs::spare))]
 fn spare(b: &[u8], at: usize) -> bool
     requires { at + 3 ≤ length b.now }
     ensures { result ≡ spare b.now at }
 {
-    if b[at] != 0 {
-        return false;
-    }
-    if b[at + 1] != 0 {
-        return false;
-    }
-    b[at + 2] == 0
+    b[at] == 0 && b[at + 1] == 0 && b[at + 2] == 0
 }
 
 // "a field outside its values"
+#[tactic(auto, unfolding(crate::specs::Logs::in_values))]
 fn in_values(x: Logged) -> bool
     ensures { result ≡ in_values x }
 {
-    let entry = x.entry;
-    if x.begin < 1 {
-        return false;
-    }
-    if x.kind < WRITES {
-        return false;
-    }
-    if READS < x.kind {
-        return false;
-    }
-    entry_fits(entry)
+    x.begin > 0 && Operation::try_from(x.kind).is_ok() && entry_fits(x.entry)
 }
 
 // "an end other than 0 not after its begin"
+#[tactic(auto, unfolding(crate::specs::Logs::ends_later))]
 fn ends_later(x: Logged) -> bool
     ensures { result ≡ ends_later x }
 {
-    if x.end == 0 {
-        return true;
-    }
-    x.begin < x.end
+    x.end == 0 || x.begin < x.end
 }
 
 // "a write of count 0"
+#[tactic(auto, unfolding(crate::specs::Logs::counted))]
 fn counted(x: Logged) -> bool
     ensures { result ≡ counted x }
 {
-    let entry = x.entry;
-    let stamp = entry.stamp;
-    let count = stamp.count;
-    if x.kind != WRITES {
-        return true;
-    }
-    0 < count.0
+    x.kind != u8::from(Operation::Write) || x.entry.stamp.count.0 > 0
 }
 
 // "a begin or end number other than 0 used twice", by two lines
+#[tactic(auto, unfolding(crate::specs::Logs::numbers_apart))]
 fn numbers_apart(x: Logged, y: Logged) -> bool
     ensures { result ≡ numbers_apart x y }
 {
-    if x.begin == y.begin {
-        return false;
-    }
-    if x.begin == y.end {
-        return false;
-    }
-    if x.end == y.begin {
-        return false;
-    }
-    if x.end == 0 {
-        return true;
-    }
-    x.end != y.end
+    x.begin != y.begin && x.begin != y.end && x.end != y.begin && (x.end == 0 || x.end != y.end)
 }
 
 // "two writes with one stamp"
+#[tactic(auto, unfolding(crate::specs::Logs::stamps_apart))]
 fn stamps_apart(x: Logged, y: Logged) -> bool
     ensures { result ≡ stamps_apart x y }
 {
-    let a = x.entry;
-    let b = y.entry;
-    let s = a.stamp;
-    let t = b.stamp;
-    let m = s.count;
-    let n = t.count;
-    if x.kind != WRITES {
-        return true;
-    }
-    if y.kind != WRITES {
-        return true;
-    }
-    if m.0 != n.0 {
-        return true;
-    }
-    s.writer != t.writer
+    x.kind != u8::from(Operation::Write)
+        || y.kind != u8::from(Operation::Write)
+        || x.entry.stamp != y.entry.stamp
 }
 
 // The clauses that ask of one line.
+#[tactic(auto, unfolding(crate::specs::Logs::line_fits))]
 fn line_fits(b: &[u8]) -> bool
     requires { length b.now ≡ line_width }
     ensures { result ≡ line_fits b.now }
 {
-    if !spare(b, 5) {
-        return false;
-    }
-    if !spare(b, 13) {
-        return false;
-    }
     let x = read_logged(b);
-    if !in_values(x) {
-        return false;
-    }
-    if !ends_later(x) {
-        return false;
-    }
-    counted(x)
-}
-
-fn fits_at(log: &[u8], i: u16) -> bool
-    requires { (1 ≤ i) × (i ≤ lines_of log.now) }
-    ensures { result ≡ line_fits (line_bytes log.now i) }
-{
-    let at = LOG_LINE * (i as usize - 1);
-    line_fits(&log[at..at + LOG_LINE])
-}
-
-fn apart(x: Logged, y: Logged) -> bool
-    ensures { result ≡ (numbers_apart x y && stamps_apart x y) }
-{
-    if !numbers_apart(x, y) {
-        return false;
-    }
-    stamps_apart(x, y)
+    spare(b, 5) && spare(b, 13) && in_values(x) && ends_later(x) && counted(x)
 }
 
 // The clauses that ask of two lines: line i beside each line before it.
+#[tactic(auto, unfolding(crate::specs::Logs::apart_before))]
 fn apart_before(log: &[u8], i: u16) -> bool
     requires { (1 ≤ i) × (i ≤ lines_of log.now) }
     ensures { result ≡ apart_before log.now i }
 {
     let y = line(log, i);
-    let mut j = 0u16;
-    while j + 1 < i {
-        let x = line(log, j + 1);
-        if !apart(x, y) {
-            return false;
-        }
-        j += 1;
-    }
-    true
-}
-
-fn fits_among(log: &[u8], i: u16) -> bool
-    requires { (1 ≤ i) × (i ≤ lines_of log.now) }
-    ensures { result ≡ (line_fits (line_bytes log.now i) && apart_before log.now i) }
-{
-    if !fits_at(log, i) {
-        return false;
-    }
-    apart_before(log, i)
+    (1..i).all(|j| {
+        let x = line(log, j);
+        numbers_apart(x, y) && stamps_apart(x, y)
+    })
 }
 
 // Each line's clauses.
+#[tactic(auto, unfolding(crate::specs::Logs::lines_fit))]
 fn lines_fit(log: &[u8], n: u16) -> bool
     requires { (n ≡ lines_of log.now) × (n ≤ most_lines) }
     ensures { result ≡ lines_fit log.now }
 {
-    let mut i = 0u16;
-    while i < n {
-        if !fits_among(log, i + 1) {
-            return false;
-        }
-        i += 1;
-    }
-    true
+    // Faster than 1..=n, which asks in each turn whether it was the last.
+    (1..n + 1).all(|i| line_fits(line_bytes(log, i)) && apart_before(log, i))
 }
 
 // "over 256 lines", and each line's clauses.
+#[tactic(auto, unfolding(crate::specs::Logs::well_logged))]
 pub fn well_logged(log: &[u8]) -> bool
     ensures { result ≡ well_logged log.now }
 {
     let n = log.len() / LOG_LINE;
-    if LOG_LINES < n {
-        return false;
-    }
-    lines_fit(log, n as u16)
+    n <= LOG_LINES && lines_fit(log, n as u16)
 }

@@ -1,75 +1,62 @@
 // The judgement of a log, with its order in a lent buffer.
-ghost use Rattle.std.specs.Prelude.{◌≡◌, ◌*◌, ◌≤◌, length, replicate};
+ghost use Rattle.std.specs.Prelude.{◌≡◌, ◌*◌, ◌≤◌, length};
+ghost use Rattle.protocol.specs.Refusals.{outcome};
 ghost use Rattle.judging.specs.Logs.{lines_of, most_lines};
-ghost use Rattle.judging.specs.Verdict.{place_width, decided, judged, judgement, order_bytes, Judges, Promise};
+ghost use Rattle.judging.specs.Verdict.{place_width, decided, judged, order_bytes, Judges, Promise};
 
-use super::Judgement;
 use super::formed::well_logged;
 use super::log::{LOG_LINE, LOG_LINES};
 use super::passes::in_order;
 use super::sort::sort;
-use codec::bytes::{clear, put16};
-use protocol::refusals::{MALFORMED, NO_ORDER, WRONG_LENGTH};
+use codec::bytes::put16;
+use protocol::Refusal;
 
 // An order is 2 bytes a log line.
 pub const PLACE: usize = 2;
 
-// The numbers of lines, u16, in a buffer of zeros.
-fn put_lines(order: &mut [u8], lines: &[u16])
-    requires { (place_width * length lines.now ≤ length order.old) × (order.old ≡ replicate (length order.old) 0) }
-    ensures { order.new ≡ order_bytes lines.now (length order.old) }
-{
-    let mut q = 0usize;
-    while q < lines.len() {
-        put16(order, PLACE * q, lines[q]);
-        q += 1;
-    }
-}
-
-// The same in any buffer, zero after them.
+// The numbers of lines, u16, and zeros after them.
 fn list(order: &mut [u8], lines: &[u16])
     requires { place_width * length lines.now ≤ length order.old }
     ensures { order.new ≡ order_bytes lines.now (length order.old) }
 {
-    clear(order);
-    put_lines(order, lines);
+    order.fill(0);
+    for (q, &line) in lines.iter().enumerate() {
+        put16(order, PLACE * q, line);
+    }
 }
 
 // A well-formed log and an order buffer of the right length.
-fn decide(log: &[u8], order: &mut [u8]) -> Judgement
+fn decide(log: &[u8], order: &mut [u8]) -> Result<u16, Refusal>
     requires { (lines_of log.now ≤ most_lines) × (length order.old ≡ place_width * lines_of log.now) }
     ensures { Judges result order.old order.new (decided log.now) }
 {
     let mut lines = [0u16; LOG_LINES];
     let k = sort(log, &mut lines);
     if !in_order(log, &lines[..k]) {
-        return Judgement::JudgeRefused(NO_ORDER);
+        return Err(Refusal::NoOrder);
     }
     list(order, &lines[..k]);
-    Judgement::InOrder(k as u16)
+    Ok(k as u16)
 }
 
-// For every log and every buffer.
-fn answer(log: &[u8], order: &mut [u8]) -> Judgement
+// For every log and every buffer; what it means is proved of the whole answer, by `judge`.
+fn answer(log: &[u8], order: &mut [u8]) -> Result<u16, Refusal>
     ensures { Judges result order.old order.new (judged log.now (length order.old)) }
 {
-    if log.len() % LOG_LINE != 0 {
-        return Judgement::JudgeRefused(WRONG_LENGTH);
-    }
-    if order.len() != PLACE * (log.len() / LOG_LINE) {
-        return Judgement::JudgeRefused(WRONG_LENGTH);
+    if log.len() % LOG_LINE != 0 || order.len() != PLACE * (log.len() / LOG_LINE) {
+        return Err(Refusal::WrongLength);
     }
     if !well_logged(log) {
-        return Judgement::JudgeRefused(MALFORMED);
+        return Err(Refusal::Malformed);
     }
     decide(log, order)
 }
 
-// "Tell whether an order exists as the mission describes it, with stamps never falling along it": the answer and every byte of
-// the buffer, and what they mean.
-pub fn judge(log: &[u8], order: &mut [u8]) -> Judgement
+// "Tell whether an order exists as the mission describes it, with stamps never falling along it": the number of operations in the order,
+// every byte of the buffer, and what they mean.
+pub fn judge(log: &[u8], order: &mut [u8]) -> Result<u16, Refusal>
     ensures judges { Judges result order.old order.new (judged log.now (length order.old)) }
-    ensures promise { Promise log.now order.old order.new (judgement result) }
+    ensures promise { Promise log.now order.old order.new (outcome result) }
 {
     answer(log, order)
 }

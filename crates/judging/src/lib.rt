@@ -10,17 +10,10 @@ pub mod sort;
 use protocol::Entry;
 
 // A line of a log: an operation's begin number, end number (0, unfinished), kind and entry.
-#[derive(Clone, Copy)]
+#[derive(Clone, Copy, Debug, PartialEq, Eq)]
 pub struct Logged {
     pub begin: u16,
     pub end: u16,
     pub kind: u8,
     pub entry: Entry,
-}
-
-// A refusal, or the number of operations in the order that is shown.
-#[derive(Clone, Copy)]
-pub enum Judgement {
-    JudgeRefused(u8),
-    InOrder(u16),
 }

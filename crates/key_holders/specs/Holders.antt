@@ -51,7 +51,3 @@ holders_beyond {w} h t n = holders_none w t (λ s a b. not_held w t s (h.one s a
 pub holders_over : (i : List ℕ) (t n : ℕ) → Served (decode i) → n ≡ (administrator_at i).newest.0 → n < t → 0 ≡ holders (decode i) t
 holders_over i t n h e l =
     sym (holders_beyond h t (omega (arith, e, ap (λ (a : Administrator). a.newest.0) (administrator_decode i))))
-
-pub holder_rule : (i : List ℕ) (t x n : ℕ) → x ≡ holder_at i t → n ≡ holders (decode i) t → eqb x n ≡ holder_ok i t
-unfolding holder_ok
-holder_rule i t x n e f = rw (e, f)

@@ -2,11 +2,11 @@
 // standard output.
 #![tactic(auto)]
 
-ghost use Rattle.std.specs.Prelude.{◌≡◌, ◌*◌, ◌≤◌, ◌<◌, length};
-ghost use Rattle.protocol.specs.Runs.{step_width};
+ghost use Rattle.std.specs.Prelude.{ℕ, ◌≡◌, ◌≤◌, length, take, true};
+ghost use Rattle.std.specs.Io.KnownBytes.{Appends};
 ghost use Rattle.loads.specs.Load.{load_from};
 
-use loads::draws::start;
+use loads::draws::Draws;
 use loads::journal::{STEP, fill};
 use std::io::Write;
 use streams::{read_full, write_all};
@@ -16,75 +16,33 @@ const PIECE: u32 = 341;
 
 const BUFFER: usize = 4096;
 
-// The state after a piece, and whether it was written.
-#[derive(Clone, Copy)]
-struct Written {
-    state: u32,
-    whole: bool,
-}
-
-fn wide(x: u8) -> u32
-    ensures { result ≡ x }
-{
-    x as u32
-}
-
-// "little-endian"
-fn word(a: u8, b: u8, c: u8, d: u8) -> u32 {
-    wide(a) + 256 * (wide(b) + 256 * (wide(c) + 256 * wide(d)))
-}
-
-// The steps of the next piece.
-fn next(left: u32) -> u32
-    requires { 0 < left }
-    ensures { (0 < result) × (result ≤ left) × (result ≤ 341) }
-{
-    if left < PIECE { left } else { PIECE }
-}
-
-// Writes steps from a state on, through a buffer.
-fn through<W: Write>(output: &mut W, buffer: &mut [u8], state: u32, steps: u32) -> Written
-    requires { step_width * steps ≤ length buffer.old }
-    ensures { result.state ≡ (load_from state steps).state }
-{
-    let end = STEP * (steps as usize);
-    let s = fill(&mut buffer[..end], state, steps);
-    let whole = write_all(output, &buffer[..end]);
-    Written {
-        state: s,
-        whole: whole,
-    }
-}
-
-fn piece<W: Write>(output: &mut W, state: u32, steps: u32) -> Written
-    requires { steps ≤ 341 }
-    ensures { result.state ≡ (load_from state steps).state }
+// Writes piece after piece, each from the state where the last one ended. Returns whether all are written; if not, the first bytes of
+// the journal may be.
+fn write_load<W: Write>(output: &mut W, draws: &mut Draws, steps: u32) -> bool
+    ensures all { result ≡ true → Appends (W.contents output.old) (W.contents output.new) (load_from draws.old.state steps).journal }
+    ensures part { (n : ℕ) × Appends (W.contents output.old) (W.contents output.new) (take n (load_from draws.old.state steps).journal) }
 {
     let mut buffer = [0u8; BUFFER];
-    through(output, &mut buffer, state, steps)
-}
-
-// Writes piece after piece, each from the state where the last one ended.
-fn pieces<W: Write>(output: &mut W, state: u32, steps: u32) {
-    let mut s = state;
     let mut left = steps;
-    while 0 < left {
-        let n = next(left);
-        let w = piece(output, s, n);
-        if !w.whole {
-            return;
+    // No range is gone over: the last piece is shorter, and the contract says what stands there when a write fails.
+    while left > 0 {
+        let n = left.min(PIECE);
+        let piece = &mut buffer[..STEP * n as usize];
+        fill(piece, draws, n);
+        if !write_all(output, piece) {
+            return false;
         }
-        s = w.state;
         left -= n;
     }
+    true
 }
 
 fn main(rt: HostRuntime) {
-    let mut b = [0u8; 8];
-    let got = read_full(&mut rt.stdin(), &mut b);
-    if got == 8 {
-        let seed = word(b[0], b[1], b[2], b[3]);
-        let steps = word(b[4], b[5], b[6], b[7]);
-        pieces(&mut rt.stdout(), start(seed), steps);
+    let mut bytes = [0u8; 8];
+    if read_full(&mut rt.stdin(), &mut bytes) == 8 {
+        let [s0, s1, s2, s3, n0, n1, n2, n3] = bytes;
+        let seed = u32::from_le_bytes([s0, s1, s2, s3]);
+        let steps = u32::from_le_bytes([n0, n1, n2, n3]);
+        write_load(&mut rt.stdout(), &mut Draws::new(seed), steps);
     }
 }

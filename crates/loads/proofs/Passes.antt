@@ -12,8 +12,7 @@ use Rattle.protocol.specs.Steps.{range, view_range, threshold_range, message_ran
 use Rattle.protocol.specs.Tools.{if}
 use Rattle.protocol.specs.Sizes.{messages}
 use Rattle.protocol.specs.Runs.{step_width, step_of}
-use Rattle.loads.specs.declared.Drawn.{Drawn}
-use Rattle.loads.specs.Draws.{start, drawn, load_kinds, load_thresholds, drawn_places, drawn_numbers, drawn_step}
+use Rattle.loads.specs.Draws.{Drawn, start, drawn, load_kinds, load_thresholds, drawn_step}
 use Rattle.loads.proofs.Drawing.{drawn_fits, drawn_high}
 use Rattle.loads.specs.Load.{spelled, longer, load_from, journal_of, length_spelled, length_load}
 
@@ -40,7 +39,7 @@ no_restart st e =
     rw (ne_eqb st.kind restart_step (λ q. omega arith)) refl
 
 pub step_passes : (state : ℕ) → fields_fit (drawn_step state).step ≡ true
-unfolding drawn_step drawn_places drawn_numbers
+unfolding drawn_step
 step_passes state =
     let kind : Drawn = drawn true load_kinds state in
     let row : ℕ = row_of kind.value in
@@ -78,22 +77,13 @@ pub spelled_back : (st : Step) → st.message.0 < 2 ^ 16 → st.source.0 < 2 ^ 1
 unfolding step_of spelled
 spelled_back st m s v = simp (half_back _ m, half_back _ s, word_back _ v)
 
-numbers_high : (row state : ℕ) → ((drawn_numbers row state).message ≤ messages) × ((drawn_numbers row state).source ≤ messages) × ((drawn_numbers row state).value ≤ last_word)
-unfolding drawn_numbers
-numbers_high row state =
-    let message : Drawn = drawn (in_row row MESSAGE) message_range state in
-    let source : Drawn = drawn (in_row row SOURCE) source_range message.state in (
-      drawn_high (in_row row MESSAGE) message_range state (omega arith),
-      drawn_high (in_row row SOURCE) source_range message.state (omega arith),
-      drawn_high (in_row row VALUE) value_range source.state (omega arith),
-    )
+numbers_high : (state : ℕ) → let st : Step = (drawn_step state).step in (st.message.0 ≤ messages) × (st.source.0 ≤ messages) × (st.value ≤ last_word)
+unfolding drawn_step
+numbers_high state = (drawn_high _ message_range _ (omega arith), drawn_high _ source_range _ (omega arith), drawn_high _ value_range _ (omega arith))
 
 drawn_back : (state : ℕ) → step_of (spelled (drawn_step state).step) ≡ (drawn_step state).step
-unfolding drawn_step
 drawn_back state =
-    let kind : Drawn = drawn true load_kinds state in
-    let row : ℕ = row_of kind.value in
-    let h = numbers_high row (drawn_places row kind.state).state in
+    let h = numbers_high state in
     spelled_back (drawn_step state).step (omega (arith, h.0)) (omega (arith, h.1)) (omega (arith, h.2))
 
 -- the bytes of step i of a load

@@ -1,70 +1,49 @@
 // The journal of a load, written into a lent buffer.
-ghost use Rattle.std.specs.Prelude.{◌≡◌, ◌+◌, ◌*◌, ◌≤◌, length};
+ghost use Rattle.std.specs.Prelude.{◌≡◌, ◌*◌, ◌≤◌, ◌+◌, length};
 ghost use Rattle.protocol.specs.Runs.{step_width};
-ghost use Rattle.loads.specs.Load.{spelled, put_step, load_from, load_on};
+ghost use Rattle.protocol.specs.Refusals.{code};
+ghost use Rattle.loads.specs.Load.{spelled, load_from, load_on};
 
-use super::draws::start;
-use super::steps::drawn_step;
-use protocol::Step;
+use super::draws::Draws;
+use protocol::{Refusal, Step};
 
 // The width of a step.
 pub const STEP: usize = 12;
 
+// "little-endian"
+#[tactic(auto, unfolding(crate::specs::Load::spelled))]
 fn step_bytes(st: Step) -> [u8; STEP]
     ensures { result ≡ spelled st }
 {
-    let view = st.view;
-    let message = st.message;
-    let source = st.source;
-    let m = message.0;
-    let s = source.0;
-    let v = st.value;
+    let [m0, m1] = st.message.0.to_le_bytes();
+    let [s0, s1] = st.source.0.to_le_bytes();
+    let [v0, v1, v2, v3] = st.value.to_le_bytes();
     [
-        st.kind,
-        st.who,
-        view.0,
-        st.f,
-        (m % 256) as u8,
-        (m / 256 % 256) as u8,
-        (s % 256) as u8,
-        (s / 256 % 256) as u8,
-        (v % 256) as u8,
-        (v / 256 % 256) as u8,
-        (v / 256 / 256 % 256) as u8,
-        (v / 256 / 256 / 256 % 256) as u8,
+        st.kind, st.who, st.view.0, st.f, m0, m1, s0, s1, v0, v1, v2, v3,
     ]
 }
 
-fn put_step(journal: &mut [u8], at: usize, st: Step)
-    requires { at + step_width ≤ length journal.old }
-    ensures { journal.new ≡ put_step journal.old at st }
-{
-    let bytes = step_bytes(st);
-    journal[at..at + STEP].copy_from_slice(&bytes);
-}
-
-// Writes the steps from a state on, and hands back the state after them.
-pub fn fill(journal: &mut [u8], state: u32, steps: u32) -> u32
+// Writes the steps that the next draws make. By an index: std says nothing of what a slice holds once its chunks were lent.
+#[tactic(auto, using(std::proofs::lemmas::Grind::common_steps, std::proofs::lemmas::Slice::overwrites), unfolding(crate::specs::Load::load_from, crate::specs::Load::longer))]
+pub fn fill(journal: &mut [u8], draws: &mut Draws, steps: u32)
     requires { length journal.old ≡ step_width * steps }
-    ensures { (result ≡ (load_from state steps).state) × (journal.new ≡ (load_from state steps).journal) }
+    ensures state { draws.new.state ≡ (load_from draws.old.state steps).state }
+    ensures journal { journal.new ≡ (load_from draws.old.state steps).journal }
 {
-    let mut s = state;
-    for i in 0..steps {
-        let d = drawn_step(s);
-        let st = d.step;
-        put_step(journal, STEP * (i as usize), st);
-        s = d.state;
+    for i in 0..steps as usize {
+        journal[STEP * i..STEP * (i + 1)].copy_from_slice(&step_bytes(draws.step()));
     }
-    s
 }
 
 // "From a seed (u32) and a number of steps, write a journal." 1, a buffer of another length.
-pub fn load(journal: &mut [u8], seed: u32, steps: u32) -> u8
-    ensures { (result ≡ (load_on journal.old seed steps).refusal) × (journal.new ≡ (load_on journal.old seed steps).journal) }
+#[tactic(auto, unfolding(crate::specs::Load::load_on, crate::specs::Load::journal_of))]
+pub fn load(journal: &mut [u8], seed: u32, steps: u32) -> Result<(), Refusal>
+    ensures refusal { code result ≡ (load_on journal.old seed steps).refusal }
+    ensures journal { journal.new ≡ (load_on journal.old seed steps).journal }
 {
-    if journal.len() != STEP * (steps as usize) {
-        return 1;
+    if journal.len() != STEP * steps as usize {
+        return Err(Refusal::WrongLength);
     }
-    fill(journal, start(seed), steps);
-    0
+    fill(journal, &mut Draws::new(seed), steps);
+    Ok(())
 }

@@ -1,20 +1,31 @@
 -- A step's answer and the image that it leaves. Assumes nothing.
-use Rattle.std.specs.Prelude.{ℕ, true, ◌≡◌, List, length}
+use Rattle.std.specs.Prelude.{ℕ, zero, suc, true, ◌≡◌, List, length, Option, None, Some, Result as Outcome, Ok, Err, ltb, ◌+◌}
+use Rattle.protocol.specs.declared.refusals.Refusal.{Refusal}
+use Rattle.protocol.specs.declared.refusals.Refusal.TheVariants.{NoNumber}
+use Rattle.protocol.specs.declared.MessageNumber.{MessageNumber}
+use Rattle.protocol.specs.Sizes.{messages}
 use Rattle.protocol.specs.declared.Message.{Message}
-use Rattle.protocol.specs.Tools.{Result, refused, done}
+use Rattle.protocol.specs.Tools.{if, Result, refused, done}
+use Rattle.protocol.specs.Refusals.{outcome}
 use Rattle.protocol.specs.Steps.{After}
 use Rattle.protocol.specs.Readable.{well_formed}
 use Rattle.codec.specs.Layout.{image_size}
 use Rattle.codec.specs.Places.{put_used, put_message}
 use Rattle.codec.specs.Images.{encode, decode}
 pub use Rattle.image.specs.Steps.{left_by, answered}
-use Rattle.mail.specs.declared.Stepped.{Stepped}
-use Rattle.mail.specs.declared.Stepped.TheVariants.{StepRefused, StepDone}
 
--- the number and the value of each case of a step's answer: a refusal, or the client whose operation it completed, or 0
-abbrev pub stepped : Stepped → Result ℕ
-stepped (StepRefused n) = refused n
-stepped (StepDone c) = done c
+-- a step's answer: a refusal, or the client whose operation it completed, if it completed one
+abbrev pub Stepped : Type 0
+Stepped = Outcome (Option ℕ) Refusal
+
+-- a number, where the rules say 0 for none
+abbrev pub some_of : ℕ → Option ℕ
+some_of zero = None
+some_of (suc c) = Some (suc c)
+
+abbrev pub told : Result ℕ → Result (Option ℕ)
+told (refused n) = refused n
+told (done c) = done (some_of c)
 
 -- the image l of a readable world
 pub record Legible (l : List ℕ) : Type 0 where
@@ -24,8 +35,12 @@ pub record Legible (l : List ℕ) : Type 0 where
 
 -- a function on the image l answered r and left l', as the step x of its world
 pub record Does (r : Stepped) (l l' : List ℕ) (x : Result After) : Type 0 where
-  pub answer : stepped r ≡ answered x
+  pub answer : outcome r ≡ told (answered x)
   pub image : l' ≡ left_by l x
+
+-- the number after the last used, u; "10, all 1,023 message numbers used"
+abbrev pub number_left : ℕ → Outcome MessageNumber Refusal
+number_left u = if (ltb u messages) (Ok (record { 0 = u + 1 })) (Err NoNumber)
 
 -- the message m is put at the number n, the last used
 unfoldable pub put_sent : List ℕ → ℕ → Message → List ℕ

@@ -1,7 +1,7 @@
 -- What the records of a readable image are, and what storing them makes of it. Assumes nothing.
-use Rattle.std.specs.Prelude.{ℕ, ◌+◌, ◌≤◌, ◌<◌, true, false, ◌≡◌, length}
+use Rattle.std.specs.Prelude.{ℕ, ◌+◌, ◌≤◌, ◌<◌, true, false, ◌≡◌, length, zero, suc, Some, Ok, Err, Bool, ltb}
 use Rattle.std.proofs.Common.{arith, sym, subst, ◌∙◌, lt-ltb, le-ltb}
-use Rattle.std.proofs.Math.Path.{ap}
+use Rattle.std.proofs.Math.Path.{refl, ap}
 use mathlib.Core.List.{List}
 use Rattle.protocol.specs.declared.Client.{Client}
 use Rattle.protocol.specs.declared.View.{View}
@@ -16,21 +16,35 @@ use Rattle.codec.specs.Places.{used_at, put_used, administrator_at, put_administ
 use Rattle.codec.specs.Images.{encode, decode}
 use Rattle.codec.specs.Laws.{Full, length_encode, put_view_lem, put_client_lem, put_message_lem, put_administrator_lem, put_send, full_view, full_client, full_message, full_administrator, full_send, used_decode, administrator_decode, decode_full, view_decode, server_decode, client_decode, message_decode}
 use Rattle.protocol.proofs.Laws.Formed.{Formed, formed}
-use Rattle.mail.specs.declared.Stepped.{Stepped}
-use Rattle.mail.specs.declared.Stepped.TheVariants.{StepDone}
-use Rattle.mail.specs.Images.{stepped, answered, left_by, Legible, Does, put_sent}
+use Rattle.protocol.specs.declared.refusals.Refusal.{Refusal}
+use Rattle.protocol.specs.declared.refusals.Refusal.TheVariants.{NoNumber}
+use Rattle.protocol.specs.declared.MessageNumber.{MessageNumber}
+use Rattle.protocol.specs.Tools.{if}
+use Rattle.protocol.specs.Clients.{number}
+use borrow.Author.Tests.{ltb-true, ltb-false}
+use Rattle.protocol.specs.Refusals.{refusal_number}
+use Rattle.mail.specs.Images.{number_left, Stepped, some_of, told, answered, left_by, Legible, Does, put_sent}
 
 -- a refusal
-pub refuses : (r : Stepped) (n : ℕ) (l : List ℕ) (x : Result After) → stepped r ≡ refused n → x ≡ refused n → Does r l l x
-refuses r n l x p q = record { answer = p ∙ sym (ap answered q); image = sym (ap (left_by l) q) }
+pub refuses : (r : Refusal) (l : List ℕ) (x : Result After) → x ≡ refused (refusal_number r) → Does (Err r) l l x
+refuses r l x q = record { answer = sym (ap (λ (y : Result After). told (answered y)) q); image = sym (ap (left_by l) q) }
+
+-- a refusal that is handed on
+pub passed_on : {l l' : List ℕ} {x : Result After} {y : Refusal} {r : Stepped} → (z : Refusal) × (r ≡ Err z) × (z ≡ y) → Does (Err y) l l' x → Does r l l' x
+passed_on (z, p, q) d = rw (p, q) d
 
 -- a step that comes to the same
 pub by : {r : Stepped} {l l' : List ℕ} {x y : Result After} → y ≡ x → Does r l l' x → Does r l l' y
 by {r} {l} {l'} e d = subst (Does r l l') (sym e) d
 
 -- a step done
-pub does : (c : ℕ) (w : World) (l l' : List ℕ) (x : Result After) → x ≡ done (record { world = w; completed = c }) → l' ≡ encode w → Does (StepDone c) l l' x
-does c w l l' x p q = record { answer = sym (ap answered p); image = q ∙ sym (ap (left_by l) p) }
+pub does : (c : ℕ) (w : World) (l l' : List ℕ) (x : Result After) → x ≡ done (record { world = w; completed = c }) → l' ≡ encode w → Does (Ok (some_of c)) l l' x
+does c w l l' x p q = record { answer = sym (ap (λ (y : Result After). told (answered y)) p); image = q ∙ sym (ap (left_by l) p) }
+
+-- a step done that completes the operation of client c
+pub does_for : (c : ℕ) → 1 ≤ c → (w : World) (l l' : List ℕ) (x : Result After) → x ≡ done (record { world = w; completed = c }) → l' ≡ encode w → Does (Ok (Some c)) l l' x
+does_for zero h w l l' x p q = absurd (omega arith)
+does_for (suc c) h w l l' x p q = does (suc c) w l l' x p q
 
 -- ---- what a readable image holds
 
@@ -108,6 +122,21 @@ module _ {l : List ℕ} (h : Legible l) where
 
   pub room_no : messages ≤ used_at l → room (decode l) ≡ false
   room_no e = room_none (decode l) (omega (arith, used_decode l))
+
+-- the number after the last used, and that none is left
+pub numbered : (u : ℕ) (n : MessageNumber) → number_left u ≡ Ok n → (u < messages) × (n.0 ≡ u + 1)
+numbered u n e = go (ltb u messages) refl e
+  where
+    go : (b : Bool) → ltb u messages ≡ b → if b (Ok (number (u + 1))) (Err NoNumber) ≡ Ok n → (u < messages) × (n.0 ≡ u + 1)
+    go true p e = (ltb-true u messages p, let q : number (u + 1) ≡ n = cc in ap (λ (m : MessageNumber). m.0) (sym q))
+    go false p e = absurd (let q : Err NoNumber ≡ Ok n = e in cc)
+
+pub unnumbered : (u : ℕ) (r : Refusal) → number_left u ≡ Err r → (messages ≤ u) × (r ≡ NoNumber)
+unnumbered u r e = go (ltb u messages) refl e
+  where
+    go : (b : Bool) → ltb u messages ≡ b → if b (Ok (number (u + 1))) (Err NoNumber) ≡ Err r → (messages ≤ u) × (r ≡ NoNumber)
+    go true p e = absurd (let q : Ok (number (u + 1)) ≡ Err r = e in cc)
+    go false p e = (ltb-false u messages p, cc)
 
 -- ---- the length stays
 

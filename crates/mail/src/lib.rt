@@ -3,35 +3,31 @@
 
 ghost use Rattle.std.specs.Prelude.{◌≡◌, ◌≤◌, length};
 ghost use Rattle.protocol.specs.Sizes.{messages};
-ghost use Rattle.protocol.specs.Worlds.{present as is_present};
 ghost use Rattle.protocol.specs.Steps.{request as request_of, answer as answer_of};
 ghost use Rattle.codec.specs.Layout.{image_size};
-ghost use Rattle.codec.specs.Images.{decode};
-ghost use Rattle.mail.specs.Images.{put_sent};
+ghost use Rattle.codec.specs.Places.{used_at};
+ghost use Rattle.mail.specs.Images.{put_sent, number_left};
 
+pub use codec::places::present;
 use codec::places::{load_used, store_message, store_used};
-use protocol::kinds::ANSWER;
-use protocol::{Entry, Message, MessageNumber, ServerNumber, Shown, ViewNumber};
+use protocol::limits::MESSAGES;
+use protocol::{
+    Entry, Message, MessageKind, MessageNumber, Refusal, ServerNumber, Shown, ViewNumber,
+};
 
-// A step's answer: a refusal, or the client whose operation it completed, or 0.
-#[derive(Clone, Copy)]
-pub enum Stepped {
-    StepRefused(u8),
-    StepDone(u8),
-}
+// A step's answer: a refusal, or the client whose operation it completed, if it completed one.
+pub type Stepped = Result<Option<u8>, Refusal>;
 
 // A message that is no answer.
-pub fn request(kind: u8, sender: u8, t: ViewNumber, e: Entry) -> Message
-    ensures { result ≡ request_of kind sender t.0 e }
+pub fn request(kind: u8, sender: u8, view: ViewNumber, entry: Entry) -> Message
+    ensures { result ≡ request_of kind sender view.0 entry }
 {
     Message {
-        kind: kind,
-        sender: sender,
-        view: t,
-        taken: false,
-        request: MessageNumber(0),
-        next: MessageNumber(0),
-        entry: e,
+        kind,
+        sender,
+        view,
+        entry,
+        ..Message::default()
     }
 }
 
@@ -39,38 +35,34 @@ pub fn request(kind: u8, sender: u8, t: ViewNumber, e: Entry) -> Message
 pub fn answer(s: ServerNumber, n: MessageNumber, x: Shown) -> Message
     ensures { result ≡ answer_of s.0 n.0 x }
 {
-    let view = x.view;
-    let entry = x.entry;
     Message {
-        kind: ANSWER,
+        kind: MessageKind::Answer as u8,
         sender: s.0,
-        view: view,
-        taken: false,
+        view: x.view,
         request: n,
-        next: MessageNumber(0),
-        entry: entry,
+        entry: x.entry,
+        ..Message::default()
     }
 }
 
-// A message of that number was sent.
-pub fn present(image: &[u8], n: MessageNumber) -> bool
+// "A new message takes the number after the last used." 10, "all 1,023 message numbers used".
+pub fn next_number(image: &[u8]) -> Result<MessageNumber, Refusal>
     requires { length image.now ≡ image_size }
-    ensures { result ≡ is_present (decode image.now) n.0 }
+    ensures { result ≡ number_left (used_at image.now) }
 {
     let used = load_used(image);
-    let k = n.0;
-    if k < 1 {
-        return false;
+    if used < MESSAGES {
+        Ok(MessageNumber(used + 1))
+    } else {
+        Err(Refusal::NoNumber)
     }
-    k <= used
 }
 
-// "A new message takes the number after the last used.": n is that number.
+// The message m is sent with the number n, the one after the last used.
 pub fn send(image: &mut [u8], n: MessageNumber, m: Message)
     requires { (length image.old ≡ image_size) × (n.0 ≤ messages) }
     ensures { image.new ≡ put_sent image.old n.0 m }
 {
-    let k = n.0;
-    store_used(image, k);
+    store_used(image, n.0);
     store_message(image, n, m);
 }

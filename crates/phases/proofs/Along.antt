@@ -1,9 +1,8 @@
 -- The record of a phase along the steps of a world: a request that was just sent has no answer taken, so opening gives its record,
 -- `open_sent`; and an answer that leaves its phase open takes the record of the world before the step to that of the world after it,
 -- `answer_along`. No code rests on it.
-use Rattle.std.specs.Prelude.{ℕ, zero, suc, ◌+◌, ◌<◌, true, not, ◌&&◌, ◌≡◌, length, eqb}
+use Rattle.std.specs.Prelude.{ℕ, zero, suc, ◌+◌, ◌<◌, true, not, ◌&&◌, ◌≡◌, length, eqb, None}
 use Rattle.std.proofs.Common.{sym, ◌∙◌}
-use Rattle.std.proofs.Math.Option.{none}
 use Rattle.std.proofs.Math.Path.{refl, ap, ap₂}
 use mathlib.Core.List.{List, [], ◌∷◌, ◌++◌}
 use Rattle.std.proofs.lemmas.Bool.{not-true}
@@ -69,7 +68,7 @@ chain_along w k f a b =
 
 pub answer_along : (w : World) (k : ℕ) (e : List ℕ) → Formed w → present w k && eqb (message w k).kind ANSWER ≡ true
     → not (message w k).taken && open? w (message w k).request.0 ≡ true → length e ≡ entry_width
-    → verdict_of w (message w k).request.0 (message w k).view.0 (taken_with w k) ≡ none → StaysOpen w k e
+    → verdict_of w (message w k).request.0 (message w k).view.0 (taken_with w k) ≡ None → StaysOpen w k e
 answer_along w k e f a b l v =
     let h = take_by_record w k e f a b l in
     let r : ℕ = (message w k).request.0 in

@@ -1,3 +1,4 @@
+pub mod Taking
 pub mod Lists
 pub mod Same
 pub mod Along

@@ -1,9 +1,8 @@
 -- A tally that takes newer answers is what the list of the answers says, `newer_closes`: the servers heard, the entry chosen of those
 -- shown, and whether all carry it. The list goes from the newest to the oldest, as `chain` has it. Used by Same.
-use Rattle.std.specs.Prelude.{ℕ, ◌-◌, ◌≤◌, ◌<◌, ◌^◌, Bool, ◌&&◌, ◌||◌, ◌≡◌, ◌⊎◌, List, [], ◌∷◌, ltb, leb}
+use Rattle.std.specs.Prelude.{ℕ, ◌-◌, ◌≤◌, ◌<◌, ◌^◌, Bool, ◌&&◌, ◌||◌, ◌≡◌, ◌⊎◌, List, [], ◌∷◌, ltb, leb, None, Some}
 use Rattle.std.proofs.Common.{arith, ap, ◌∙◌, inl, inr, pow_mono, ltb-true, ltb-false, eqb-true, eq-eqb, ne_eqb, lt-ltb, le-ltb}
 use Rattle.std.proofs.Math.Bool.{true, false, or-false}
-use Rattle.std.proofs.Math.Option.{some, none}
 use Rattle.std.proofs.Math.Path.{refl, sym, ap₂}
 use Rattle.std.proofs.Math.Dec.{eqb}
 use Rattle.std.specs.Int.Bits.{bit_or, or_lt}
@@ -258,9 +257,9 @@ in_tells w t (k ∷ ks) e = go (tagged w t k) (in_tells w t ks (and_right (valid
 
 -- a tally closes where there are enough answers of its view, with what is chosen of them: as the walk along the list does
 pub newer_closes : (w : World) (t : ℕ) (ks : List ℕ) (size : ℕ) → all (valid_answer w) ks ≡ true
-    → closes_at (tally_in w t ks) size ≡ if (enough w t ks size) (some (choice w t ks)) none
+    → closes_at (tally_in w t ks) size ≡ if (enough w t ks size) (Some (choice w t ks)) None
 unfolding closes_at enough agreed
 newer_closes w t ks size e =
     let h = in_tells w t ks e in
-    ap₂ (λ (n : ℕ) (c : Choice). if (leb size n) (some c) none) (count_same (holds (tally_in w t ks).seen.0) (heard w t ks) servers h.seen)
+    ap₂ (λ (n : ℕ) (c : Choice). if (leb size n) (Some c) None) (count_same (holds (tally_in w t ks).seen.0) (heard w t ks) servers h.seen)
     (ap₂ (λ (x : Entry) (b : Bool). record { entry = x; one = b }) h.best h.one)

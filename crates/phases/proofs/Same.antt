@@ -5,9 +5,8 @@
 use Prim.Native.Nat.{ℕ, ◌+◌, ◌*◌, ◌≤◌, ◌<◌, ◌^◌}
 use Rattle.std.proofs.Math.Decide.{ℕ_discrete}
 use Rattle.std.proofs.Common.{arith, ap₂, ◌∙◌, length-append}
-use Rattle.std.specs.Prelude.{Bool, not, ◌&&◌, ◌≡◌, length, leb, ltb}
+use Rattle.std.specs.Prelude.{Bool, not, ◌&&◌, ◌≡◌, length, leb, ltb, None, Some}
 use Rattle.std.proofs.Math.Bool.{true, false}
-use Rattle.std.proofs.Math.Option.{none, some}
 use Rattle.std.proofs.Math.Path.{refl, sym, ap}
 use mathlib.Core.List.{List, [], ◌∷◌, ◌++◌, append-nil}
 use Rattle.std.proofs.Math.Dec.{eqb}
@@ -20,8 +19,7 @@ use Rattle.protocol.specs.declared.MessageNumber.{MessageNumber}
 use Rattle.protocol.specs.declared.Phase.{Phase}
 use Rattle.protocol.specs.declared.Phase.TheVariants.{Idle, Reading, Writing}
 use Rattle.protocol.specs.declared.Client.{Client}
-use Rattle.protocol.specs.declared.Ending.{Ending}
-use Rattle.protocol.specs.declared.Ending.TheVariants.{Settled, EndSent}
+use Rattle.protocol.specs.Types.{Ending}
 use Rattle.protocol.specs.declared.View.{View}
 use Rattle.protocol.specs.Tools.{if, within, bit, all, nth, replace, done, guard}
 use Rattle.protocol.specs.Sizes.{clients, servers, views, messages, sized, write_size}
@@ -65,12 +63,12 @@ abbrev choice_in : World → ℕ → ℕ → List ℕ → Choice
 choice_in w r t ks = record { entry = chosen (shown w t ks); one = may_end (message w r).kind (agreed w t ks) (view w t) }
 
 verdict_list : (w : World) (r t : ℕ) (ks : List ℕ) → all (valid_answer w) ks ≡ true
-    → verdict_of w r t ks ≡ if (enough_in w r t ks) (some (choice_in w r t ks)) none
+    → verdict_of w r t ks ≡ if (enough_in w r t ks) (Some (choice_in w r t ks)) None
 unfolding record_closes
 verdict_list w r t ks e =
     rw (newer_closes w t ks (size_by (message w r).kind (view w t)) e) (go (counts (head_in w r) t) (enough w t ks (size_by (message w r).kind (view w t))))
   where
-    go : (a b : Bool) → if a (closed_with (message w r).kind (view w t) (if b (some (choice w t ks)) none)) none ≡ if (a && b) (some (choice_in w r t ks)) none
+    go : (a b : Bool) → if a (closed_with (message w r).kind (view w t) (if b (Some (choice w t ks)) None)) None ≡ if (a && b) (Some (choice_in w r t ks)) None
     go true true = refl
     go true false = refl
     go false b = refl
@@ -165,8 +163,8 @@ taking_of w k f a b =
 -- "while ending, newest is below 32 ..., and the END is that of newest"
 end_view : (w : World) (r : ℕ) (x : Ending) → ending_fits w x ≡ true → eqb (end_of x) r ≡ true → 1 ≤ r
     → ((message w r).view.0 ≡ newest w) × (newest w < views)
-end_view w r Settled e h l = absurd (omega (arith, eqb-true 0 r h))
-end_view w r (EndSent n) e h l =
+end_view w r None e h l = absurd (omega (arith, eqb-true 0 r h))
+end_view w r (Some n) e h l =
     let q : n.0 ≡ r = eqb-true n.0 r h in
     let s = and_right (is_sent w n.0 END 0) _ (and_right (ltb (newest w) views) _ e) in
     (rw q at (eqb-true (message w n.0).view.0 (newest w) s), ltb-true (newest w) views (and_left _ _ e))
@@ -196,12 +194,12 @@ closes_writing : (w : World) (k c : ℕ) (e : Entry) (one : Bool) (n : MessageNu
 unfolding closes close
 closes_writing w k c e one n p = rw p refl
 
-carried_if : (w : World) (k r : ℕ) (b : Bool) (x : Choice) → carried w k r (if b (some x) none) ≡ if b (carried w k r (some x)) (moved (link w k))
+carried_if : (w : World) (k r : ℕ) (b : Bool) (x : Choice) → carried w k r (if b (Some x) None) ≡ if b (carried w k r (Some x)) (moved (link w k))
 carried_if w k r true x = refl
 carried_if w k r false x = refl
 
 module _ (w : World) (k r t : ℕ) (q : (message w k).request.0 ≡ r) (a : all (valid_answer w) (k ∷ chain w r) ≡ true) where
-  by_list : if (enough_in w r t (k ∷ chain w r)) (carried w k r (some (choice_in w r t (k ∷ chain w r)))) (moved (link w k))
+  by_list : if (enough_in w r t (k ∷ chain w r)) (carried w k r (Some (choice_in w r t (k ∷ chain w r)))) (moved (link w k))
       ≡ carried w k r (verdict_of w r t (k ∷ chain w r))
   by_list =
       sym (ap (carried w k r) (verdict_list w r t (k ∷ chain w r) a) ∙ carried_if w k r (enough_in w r t (k ∷ chain w r)) (choice_in w r t (k ∷ chain w r)))

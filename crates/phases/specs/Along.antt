@@ -1,7 +1,6 @@
 -- The record of a phase along the steps of a world, in words: worlds of which it is the same, `SameSent`; and an answer that leaves its phase
 -- open, `StaysOpen`. The laws are in proofs/Along. No code rests on it.
-use Rattle.std.specs.Prelude.{ℕ, ◌≡◌}
-use Rattle.std.proofs.Math.Option.{none}
+use Rattle.std.specs.Prelude.{ℕ, ◌≡◌, None}
 use mathlib.Core.List.{List}
 use Rattle.protocol.specs.Tools.{done}
 use Rattle.protocol.specs.Worlds.{World, message}
@@ -21,4 +20,4 @@ pub record SameSent (w v : World) : Type 0 where
 pub record StaysOpen (w : World) (k : ℕ) (e : List ℕ) : Type 0 where
   pub step : take w k ≡ moved (link w k)
   pub told : answer_on (record_of w (message w k).request.0 (chain w (message w k).request.0)) (asked_of w k) e
-      ≡ done (record { phase = record_of (link w k) (message w k).request.0 (chain (link w k) (message w k).request.0); choice = none })
+      ≡ done (record { phase = record_of (link w k) (message w k).request.0 (chain (link w k) (message w k).request.0); choice = None })

@@ -1,12 +1,13 @@
 -- The two calls on lent bytes, for all of them: `open_on` opens a phase, `answer_on` gives it one answer; what they answer and leave. The
 -- contracts of the public functions cite these.
-use Rattle.std.specs.Prelude.{ℕ, ◌+◌, Bool, ◌&&◌, ◌≡◌, List, ◌++◌, length, replicate, eqb}
-use Rattle.std.proofs.Math.Option.{Option, none, some}
+use Rattle.std.specs.Prelude.{ℕ, ◌+◌, Bool, ◌&&◌, ◌≡◌, List, ◌++◌, length, replicate, eqb, Option, None, Some, Result as Outcome}
 use Rattle.values.specs.declared.tally.Tally.{Tally}
 use Rattle.protocol.specs.declared.Choice.{Choice}
 use Rattle.protocol.specs.declared.Message.{Message}
 use Rattle.protocol.specs.declared.View.{View}
 use Rattle.protocol.specs.Tools.{bit, Result, refused, done, guard, then, number_of}
+use Rattle.protocol.specs.declared.refusals.Refusal.{Refusal}
+use Rattle.protocol.specs.Refusals.{outcome_by}
 use Rattle.protocol.specs.Sizes.{sized}
 use Rattle.checked.specs.Ranges.{message_in_range}
 use Rattle.checked.specs.Rules.{take_rule}
@@ -14,8 +15,6 @@ use Rattle.codec.specs.Layout.{entry_width, view_width, message_width}
 use Rattle.codec.specs.Lists.{part, put}
 use Rattle.codec.specs.Records.{entry_bytes, view_of, view_plain, message_of, message_plain}
 use Rattle.phases.specs.declared.phase_record.Head.{Head}
-use Rattle.phases.specs.declared.call.AnswerGiven.{AnswerGiven}
-use Rattle.phases.specs.declared.call.AnswerGiven.TheVariants.{GivenRefused, StillOpen, PhaseClosed}
 use Rattle.phases.specs.Layout.{head_width, tallies_width, phase_width, asked_width}
 use Rattle.phases.specs.Records.{head, head_bytes, open_fits, head_fits, head_at, tally_at, put_tally, tally_fits}
 use Rattle.phases.specs.Rules.{count_answer, record_closes}
@@ -46,8 +45,8 @@ pub record RecordTold : Type 0 where
 
 -- where the phase closes nothing is open: the head is zero
 abbrev pub head_left : List ℕ → Option Choice → List ℕ
-head_left p none = p
-head_left p (some x) = put p 0 (replicate head_width 0)
+head_left p None = p
+head_left p (Some x) = put p 0 (replicate head_width 0)
 
 abbrev pub tally_with : List ℕ → Message → Tally
 tally_with p m = count_answer (tally_at p m.view.0) m
@@ -93,8 +92,8 @@ answer_on p b e = guard (lent_fit p b e) 1 (guard (asked_plain b) 3 (answer_by p
 -- ---- what it answers: 0 the phase is open; 1 it is closed; 2 it is closed, and a read may end with it
 
 abbrev pub verdict : Option Choice → ℕ
-verdict none = 0
-verdict (some x) = 1 + bit x.one
+verdict None = 0
+verdict (Some x) = 1 + bit x.one
 
 abbrev pub told_number : Result RecordTold → Result ℕ
 told_number (refused n) = refused n
@@ -106,20 +105,22 @@ phase_left p (refused n) = p
 phase_left p (done x) = x.phase
 
 abbrev pub chosen_left : List ℕ → Option Choice → List ℕ
-chosen_left e none = e
-chosen_left e (some x) = entry_bytes x.entry
+chosen_left e None = e
+chosen_left e (Some x) = entry_bytes x.entry
 
 abbrev pub entry_after : List ℕ → Result RecordTold → List ℕ
 entry_after e (refused n) = e
 entry_after e (done x) = chosen_left e x.choice
 
 -- the code's answer
-abbrev pub given_code : AnswerGiven → Result ℕ
-given_code (GivenRefused n) = refused n
-given_code StillOpen = done 0
-given_code (PhaseClosed one) = done (1 + bit one)
+abbrev pub said : Option Bool → ℕ
+said None = 0
+said (Some one) = 1 + bit one
 
-pub record Answers (r : AnswerGiven) (out_phase out_entry p e : List ℕ) (x : Result RecordTold) : Type 0 where
+abbrev pub given_code : Outcome (Option Bool) Refusal → Result ℕ
+given_code r = outcome_by said r
+
+pub record Answers (r : Outcome (Option Bool) Refusal) (out_phase out_entry p e : List ℕ) (x : Result RecordTold) : Type 0 where
   pub code : given_code r ≡ told_number x
   pub phase : out_phase ≡ phase_left p x
   pub entry : out_entry ≡ entry_after e x
@@ -133,6 +134,6 @@ pub record Takes (r : Option Choice) (out : List ℕ) (x : RecordTold) : Type 0 
   pub choice : r ≡ x.choice
   pub phase : out ≡ x.phase
 
-pub record Writes (r : AnswerGiven) (out e : List ℕ) (x : Option Choice) : Type 0 where
-  pub code : given_code r ≡ done (verdict x)
+pub record Writes (r : Option Bool) (out e : List ℕ) (x : Option Choice) : Type 0 where
+  pub code : said r ≡ verdict x
   pub bytes : out ≡ chosen_left e x

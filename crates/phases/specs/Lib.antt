@@ -2,7 +2,7 @@ pub mod Layout
 pub mod Records
 pub mod Rules
 pub mod Calls
-pub mod Ways
+pub mod Written
 pub mod Lists
 pub mod Same
 pub mod Along

@@ -1,7 +1,6 @@
 -- What one answer does to the tally of its view, and whether it closes the phase. Used by Calls; `Same` shows that this is the step
 -- take.
-use Rattle.std.specs.Prelude.{ℕ, Bool, not, ◌&&◌, ◌||◌, eqb}
-use Rattle.std.proofs.Math.Option.{Option, none, some}
+use Rattle.std.specs.Prelude.{ℕ, Bool, not, ◌&&◌, ◌||◌, eqb, Option, None, Some}
 use Rattle.std.specs.Int.Bits.{bit_or}
 use Rattle.values.specs.declared.tally.Tally.{Tally}
 use Rattle.protocol.specs.declared.Choice.{Choice}
@@ -40,10 +39,10 @@ may_end kind one v = eqb kind READ && (one && one_exchange v)
 
 -- what closes the phase, once it is known whether a read may end with it
 abbrev pub closed_with : ℕ → View → Option Choice → Option Choice
-closed_with kind v none = none
-closed_with kind v (some x) = some (record { entry = x.entry; one = may_end kind x.one v })
+closed_with kind v None = None
+closed_with kind v (Some x) = Some (record { entry = x.entry; one = may_end kind x.one v })
 
 -- "A phase closes when, by the answer just taken, the answers taken with that answer's view t come from at least q(t) different
 -- servers.": a is the tally of view t with that answer, v is view t
 unfoldable pub record_closes : Head → Tally → ℕ → View → Option Choice
-record_closes h a t v = if (counts h t) (closed_with h.kind v (closes_at a (size_by h.kind v))) none
+record_closes h a t v = if (counts h t) (closed_with h.kind v (closes_at a (size_by h.kind v))) None

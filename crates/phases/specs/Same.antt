@@ -1,8 +1,7 @@
 -- The record of a phase says what the step take does, in words: `record_of` is the record of the answers that were taken to a request,
 -- `verdict_of` what it says, and `ByRecord` what the step does. The law is `take_by_record` in proofs/Same. No code rests on it.
 use Prim.Native.Nat.{ℕ}
-use Rattle.std.specs.Prelude.{◌≡◌}
-use Rattle.std.proofs.Math.Option.{Option, none, some}
+use Rattle.std.specs.Prelude.{◌≡◌, Option, None, Some}
 use mathlib.Core.List.{List, ◌++◌}
 use Rattle.std.proofs.Math.Dec.{eqb}
 use Rattle.values.specs.declared.tally.Tally.{Tally}
@@ -41,8 +40,8 @@ verdict_of w r t ks = record_closes (head_in w r) (tally_in w t ks) t (view w t)
 
 -- what the step does once it is known whether the phase closes: "the answer either closes its phase or leaves it open"
 abbrev pub carried : World → ℕ → ℕ → Option Choice → Result After
-carried w k r none = moved (link w k)
-carried w k r (some x) = if (eqb (message w r).kind END) (starts w k x.entry) (closes w k (message w r).sender x.entry x.one)
+carried w k r None = moved (link w k)
+carried w k r (Some x) = if (eqb (message w r).kind END) (starts w k x.entry) (closes w k (message w r).sender x.entry x.one)
 
 -- ---- the answer and its view as they are lent
 

@@ -1,11 +1,9 @@
 // What one answer does to the tally of its view, and whether it closes the phase.
 ghost use Rattle.std.specs.Prelude.{◌≡◌};
-ghost use Rattle.protocol.specs.Clients.{taken};
 ghost use Rattle.phases.specs.Rules.{newer, count_answer, size_by, counts, may_end, record_closes};
 
 use super::phase_record::Head;
-use protocol::kinds::{END, READ};
-use protocol::{Choice, Message, ServerNumber, Taken, View, ViewNumber};
+use protocol::{Choice, Message, MessageKind, ServerNumber, ServerSet, View, ViewNumber};
 use values::tally::Tally;
 use values::{entries, sets, sizes, tally};
 
@@ -13,77 +11,61 @@ use values::{entries, sets, sizes, tally};
 fn newer(a: Tally, m: Message) -> Tally
     ensures { result ≡ newer a m }
 {
-    let shown = m.entry;
-    let had = a.best;
-    let best = entries::larger(had, shown);
-    let one = tally::still_one(a.one, had, shown);
-    let heard = a.seen;
-    let seen = sets::with_server(heard, ServerNumber(m.sender));
     Tally {
-        seen: seen,
-        best: best,
-        one: one,
+        seen: sets::with(a.seen, ServerNumber(m.sender)),
+        best: entries::larger(a.best, m.entry),
+        one: tally::still_one(a.one, a.best, m.entry),
     }
 }
 
 // The tally with one answer more, which is the first where nobody was heard.
+#[tactic(auto, unfolding(crate::specs::Rules::count_answer))]
 pub fn count_answer(a: Tally, m: Message) -> Tally
     ensures { result ≡ count_answer a m }
 {
-    let heard = a.seen;
-    if heard.0 == 0 {
-        return tally::first_answer(m);
+    if a.seen == ServerSet(0) {
+        tally::first_answer(m)
+    } else {
+        newer(a, m)
     }
-    newer(a, m)
 }
 
 // How many servers close a phase: READ the read size, WRITE and END the write size.
 fn size_by(kind: u8, v: View) -> u32
     ensures { result ≡ size_by kind v }
 {
-    if kind == READ {
-        return sizes::read_size(v);
+    if kind == u8::from(MessageKind::Read) {
+        sizes::read_size(v)
+    } else {
+        sizes::write_size(v)
     }
-    sizes::write_size(v)
 }
 
 // Whether answers of view t count: to END only those of the view that it ends.
 fn counts(h: Head, t: ViewNumber) -> bool
     ensures { result ≡ counts h t.0 }
 {
-    let view = h.view;
-    if h.kind != END {
-        return true;
-    }
-    t.0 == view.0
+    h.kind != u8::from(MessageKind::End) || t == h.view
 }
 
 // Whether a read may end with its READ phase.
 fn may_end(kind: u8, one: bool, v: View) -> bool
     ensures { result ≡ may_end kind one v }
 {
-    if kind != READ {
-        return false;
-    }
-    sizes::at_once(one, v)
+    kind == u8::from(MessageKind::Read) && sizes::at_once(one, v)
 }
 
 // Whether the answers of view t, which is v, close what is open.
-pub fn record_closes(h: Head, a: Tally, t: ViewNumber, v: View) -> Taken
-    ensures { taken result ≡ record_closes h a t.0 v }
+#[tactic(auto, unfolding(crate::specs::Rules::record_closes))]
+pub fn record_closes(h: Head, a: Tally, t: ViewNumber, v: View) -> Option<Choice>
+    ensures { result ≡ record_closes h a t.0 v }
 {
     if !counts(h, t) {
-        return Taken::Open;
+        return None;
     }
-    let size = size_by(h.kind, v);
-    let closed = tally::closes(a, size);
-    let Taken::Closed(x) = closed else {
-        return Taken::Open;
-    };
-    let entry = x.entry;
-    let one = may_end(h.kind, x.one, v);
-    Taken::Closed(Choice {
-        entry: entry,
-        one: one,
+    let x = tally::closes(a, size_by(h.kind, v))?;
+    Some(Choice {
+        one: may_end(h.kind, x.one, v),
+        ..x
     })
 }

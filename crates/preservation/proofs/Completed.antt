@@ -1,7 +1,6 @@
 -- Who completes an operation. Assumes nothing.
-use Rattle.std.specs.Prelude.{ℕ, ◌+◌, Bool, true, false, ◌&&◌, ◌≡◌, eqb}
+use Rattle.std.specs.Prelude.{ℕ, ◌+◌, Bool, true, false, ◌&&◌, ◌≡◌, eqb, Option, None, Some}
 use Rattle.std.proofs.Common.{arith, eqb-true, le-leb}
-use Rattle.std.proofs.Math.Option.{Option, none, some}
 use Rattle.std.proofs.lemmas.Bool.{eqb-false}
 use Rattle.protocol.specs.declared.Shown.{Shown}
 use Rattle.protocol.specs.declared.Server.{Server}
@@ -44,8 +43,8 @@ unfolding begins
 begins_tells w c kind value = yields_then (begin (client w c) kind value (next_number w)) _ (λ a _. tells_room (room w) _)
 
 answers_tells : (x : Option Shown) (w : World) (s n : ℕ) (a : Server) → Tells (answers x w s n a)
-answers_tells none w s n a = tells_moved _
-answers_tells (some x) w s n a = tells_room _ _
+answers_tells None w s n a = tells_moved _
+answers_tells (Some x) w s n a = tells_room _ _
 
 deliver_tells : (w : World) (s n : ℕ) → Tells (deliver w s n)
 unfolding deliver

@@ -1,6 +1,6 @@
 -- "Wherever the cut falls, START has been sent and nothing changes, or the old view is newest and the answers that would have closed
 -- END, taken again with no other step between, still do.": `cut`, for every run and every restart that check 3 lets pass. Assumes nothing.
-use Rattle.std.specs.Prelude.{ℕ, ◌+◌, ◌≤◌, Bool, not, ◌&&◌, ◌||◌, ◌≡◌, ◌⊎◌}
+use Rattle.std.specs.Prelude.{ℕ, ◌+◌, ◌≤◌, Bool, not, ◌&&◌, ◌||◌, ◌≡◌, ◌⊎◌, None, Some}
 use Rattle.std.proofs.Common.{arith, sym, ◌∙◌, inl, inr}
 use Rattle.std.proofs.Math.Bool.{true, false}
 use Rattle.std.proofs.Math.Path.{refl, ap, subst}
@@ -13,8 +13,7 @@ use Rattle.protocol.specs.declared.View.{View}
 use Rattle.protocol.specs.declared.Message.{Message}
 use Rattle.protocol.specs.declared.Step.{Step}
 use Rattle.protocol.specs.declared.Administrator.{Administrator}
-use Rattle.protocol.specs.declared.Ending.{Ending}
-use Rattle.protocol.specs.declared.Ending.TheVariants.{Settled, EndSent}
+use Rattle.protocol.specs.Types.{Ending}
 use Rattle.protocol.specs.Tools.{if, all, Result, refused, done, guard, then, passed}
 use Rattle.protocol.specs.Sizes.{messages, sized, write_size, view_with}
 use Rattle.protocol.specs.Entries.{chosen}
@@ -141,7 +140,7 @@ module _ (w : World) (v : View) where
 -- ---- the answers of an open END
 
 -- its chain, in a readable world that a run reaches
-part_of : {w : World} → Formed w → Unclosed w → (r : MessageNumber) → w.administrator.ending ≡ EndSent r → Part w r.0 (chain w r.0)
+part_of : {w : World} → Formed w → Unclosed w → (r : MessageNumber) → w.administrator.ending ≡ Some r → Part w r.0 (chain w r.0)
 unfolding chain
 part_of {w} h g r e =
     let d = ended h r e in
@@ -181,11 +180,11 @@ part_other {w} {r} {ks} v h =
 -- ---- the restart
 
 -- nothing is being ended
-refused_settled : (w : World) (v : View) → w.administrator.ending ≡ Settled → restarts w v ≡ refused 7
+refused_settled : (w : World) (v : View) → w.administrator.ending ≡ None → restarts w v ≡ refused 7
 unfolding restarts restart guard
 refused_settled w v e = rw (ap is_ending e) refl
 
-module _ {w : World} (h : Formed w) (g : Unclosed w) (r : MessageNumber) (e : w.administrator.ending ≡ EndSent r) (v : View) where
+module _ {w : World} (h : Formed w) (g : Unclosed w) (r : MessageNumber) (e : w.administrator.ending ≡ Some r) (v : View) where
   abbrev restarted : World
   restarted = planned (with_administrator (emptied w r.0) w.administrator) (newest w + 1) v
 
@@ -224,7 +223,7 @@ module _ {w : World} (h : Formed w) (g : Unclosed w) (r : MessageNumber) (e : w.
 record Since (w b : World) : Type 0 where
   used : w.used ≤ b.used
   old : (i : ℕ) → i ≤ w.used → sent b i ≡ sent w i
-  ending : (b.administrator ≡ w.administrator) ⊎ (b.administrator.ending ≡ Settled)
+  ending : (b.administrator ≡ w.administrator) ⊎ (b.administrator.ending ≡ None)
 
 since_link : {w b : World} → Since w b → b.administrator ≡ w.administrator → (k : ℕ) → Since w (link b k)
 unfolding link with_message
@@ -268,7 +267,7 @@ take_planned b v k r q i a f = go (keeps_view v)
     go true = f
     go false = take_alike b v k r q i ∙ ap (through (λ x. with_view x (newest b + 1) v)) f
 
-module _ {w : World} (h : Formed w) (g : Unclosed w) (r : MessageNumber) (e : w.administrator.ending ≡ EndSent r) (v : View) where
+module _ {w : World} (h : Formed w) (g : Unclosed w) (r : MessageNumber) (e : w.administrator.ending ≡ Some r) (v : View) where
   -- the world after answers of w to END, and where they lead after a restart
   record Leads (js : List ℕ) (a : After) : Type 0 where
     since : Since w a.world
@@ -296,7 +295,7 @@ module _ {w : World} (h : Formed w) (g : Unclosed w) (r : MessageNumber) (e : w.
             (take_planned b.world v j r.0 q i a f));
       }
     where
-      still : (b.world.administrator ≡ w.administrator) ⊎ (b.world.administrator.ending ≡ Settled) → end_of b.world.administrator.ending ≡ r.0 → b.world.administrator ≡ w.administrator
+      still : (b.world.administrator ≡ w.administrator) ⊎ (b.world.administrator.ending ≡ None) → end_of b.world.administrator.ending ≡ r.0 → b.world.administrator ≡ w.administrator
       still (inl k) o = k
       still (inr k) o = absurd (omega (arith, (ended h r e).full.short.low, o, ap end_of k))
 
@@ -319,14 +318,14 @@ cut_of {w} h g st k f = go w.administrator.ending refl
     v : View
     v = view_asked st
 
-    ends : (r : MessageNumber) → w.administrator.ending ≡ EndSent r → (b : Bool) → (keeps_view v || sized v) ≡ b → Cut w st
+    ends : (r : MessageNumber) → w.administrator.ending ≡ Some r → (b : Bool) → (keeps_view v || sized v) ≡ b → Cut w st
     ends r e true z =
         before r e (restarted h g r e v) (step_restarts w st k f ∙ restarts_to h g r e v z) (restarted_same h g r e v) (λ js p a t. (leads_to h g r e v js p a t).again)
     ends r e false z = unsized r e z (step_restarts w st k f ∙ restarts_not h g r e v z)
 
     go : (x : Ending) → w.administrator.ending ≡ x → Cut w st
-    go Settled e = past e (step_restarts w st k f ∙ refused_settled w v e)
-    go (EndSent r) e = ends r e _ refl
+    go None e = past e (step_restarts w st k f ∙ refused_settled w v e)
+    go (Some r) e = ends r e _ refl
 
 -- what a step of a run leaves
 noted_kept : (x : Run) → Formed x.world → Unclosed x.world → (b : List ℕ) → Formed (noted x b (step_bytes x.world b)).world × Unclosed (noted x b (step_bytes x.world b)).world
@@ -337,9 +336,9 @@ noted_kept x h g b = go (step_bytes x.world b) refl
     go (refused n) e = (h, g)
     go (done a) e = let (l, d) = passed _ _ _ _ e in (formed_step h (step_of b) a d, step_unclosed h g (step_of b) a d)
 
-settled : (x : Ending) → is_ending x ≡ false → x ≡ Settled
-settled Settled e = refl
-settled (EndSent r) e = clash refl e
+settled : (x : Ending) → is_ending x ≡ false → x ≡ None
+settled None e = refl
+settled (Some r) e = clash refl e
 
 -- every world of a run
 reached : (x : Run) → Formed x.world → Unclosed x.world → (bs : List (List ℕ)) → Formed (run x bs).world × Unclosed (run x bs).world

@@ -1,5 +1,5 @@
 -- What the clauses of a readable world rest on, and what later worlds keep of it. Assumes nothing.
-use Rattle.std.specs.Prelude.{ℕ, ◌≤◌, ◌<◌, Bool, true, false, not, ◌&&◌, ◌≡◌, refl, ltb, leb, eqb}
+use Rattle.std.specs.Prelude.{ℕ, ◌≤◌, ◌<◌, Bool, true, false, not, ◌&&◌, ◌≡◌, refl, ltb, leb, eqb, None, Some}
 use Rattle.std.proofs.Common.{arith, sym, ◌∙◌, ltb-true, eqb-true, lt-ltb, eq-eqb}
 use Rattle.std.proofs.Math.Path.{ap}
 use Rattle.protocol.specs.declared.ViewNumber.{ViewNumber}
@@ -7,8 +7,7 @@ use Rattle.protocol.specs.declared.Message.{Message}
 use Rattle.protocol.specs.declared.Client.{Client}
 use Rattle.protocol.specs.declared.Phase.{Phase}
 use Rattle.protocol.specs.declared.Phase.TheVariants.{Idle, Reading, Writing}
-use Rattle.protocol.specs.declared.Ending.{Ending}
-use Rattle.protocol.specs.declared.Ending.TheVariants.{Settled, EndSent}
+use Rattle.protocol.specs.Types.{Ending}
 use Rattle.protocol.specs.Tools.{if, within}
 use Rattle.protocol.specs.Sizes.{views}
 use Rattle.protocol.specs.Entries.{same}
@@ -78,8 +77,8 @@ module _ {w v : World} (o : Onward w v) where
       and_both _ _ (sent_on r END 0 p) (eq-eqb _ _ t)
 
   pub ending_on : newest v ≡ newest w → (x : Ending) → ending_fits w x ≡ true → ending_fits v x ≡ true
-  ending_on q Settled e = refl
-  ending_on q (EndSent r) e =
+  ending_on q None e = refl
+  ending_on q (Some r) e =
       let l : newest v < views = omega (arith, ltb-true (newest w) views (and_left _ _ e)) in
       and_both _ _ (lt-ltb _ _ l) (end_on q r.0 (and_right (ltb (newest w) views) _ e))
 

@@ -1,5 +1,5 @@
 -- Every accepted step keeps a world readable. Assumes nothing.
-use Rattle.std.specs.Prelude.{ℕ, zero, suc, ◌+◌, ◌/◌, ◌%◌, ◌^◌, ◌≤◌, ◌<◌, Bool, not, ◌&&◌, ◌||◌, ◌≡◌, ◌⊎◌, List, [], ◌∷◌, ltb, leb, eqb}
+use Rattle.std.specs.Prelude.{ℕ, zero, suc, ◌+◌, ◌/◌, ◌%◌, ◌^◌, ◌≤◌, ◌<◌, Bool, not, ◌&&◌, ◌||◌, ◌≡◌, ◌⊎◌, List, [], ◌∷◌, ltb, leb, eqb, None, Some}
 use Rattle.std.proofs.Common.{le_refl, arith, sym, ◌∙◌, inl, inr, pow_mono, ltb-true, leb-true, eqb-true, lt-ltb, le-leb, eq-eqb, ne_eqb}
 use Rattle.std.proofs.Math.Nat.{div-eq_of_lt}
 use Rattle.std.proofs.Math.Decide.{dec_le}
@@ -19,12 +19,12 @@ use Rattle.protocol.specs.declared.Step.{Step}
 use Rattle.protocol.specs.declared.Phase.{Phase}
 use Rattle.protocol.specs.declared.Phase.TheVariants.{Idle, Reading, Writing}
 use Rattle.protocol.specs.declared.Administrator.{Administrator}
-use Rattle.protocol.specs.declared.Ending.{Ending}
-use Rattle.protocol.specs.declared.Ending.TheVariants.{Settled, EndSent}
+use Rattle.protocol.specs.Types.{Ending}
 use Rattle.protocol.specs.Tools.{if, within, all, holds, bit_of, Result, refused, done, guard, passed}
 use Rattle.protocol.specs.Sizes.{clients, servers, views, messages, last_count, sized, write_size}
 use Rattle.protocol.specs.Entries.{entry, empty, count_of, writer_of, larger, chosen, same, entry_fits}
-use Rattle.protocol.specs.Servers.{READ, WRITE, END, START, ANSWER, is_request, Reply, comparing, replacing, without_key, joining, gathering, may_answer}
+use Rattle.protocol.specs.declared.Reply.{Reply}
+use Rattle.protocol.specs.Servers.{READ, WRITE, END, START, ANSWER, is_request, comparing, replacing, without_key, joining, gathering, may_answer}
 use Rattle.protocol.specs.Clients.{NONE, WRITES, READS, number, begin, close_size, next_count, to_write, given_by, count_left, give_up, Close, write_next, complete_with, once, close_by, close, is_ending, end_of, request_of, call, advance, keeps_view, restart}
 use Rattle.protocol.specs.Worlds.{World, view, server, client, message, newest, member, present, room, with_server, with_client, with_view, with_message, with_administrator, send, next_number, as_sent}
 use Rattle.protocol.specs.Chains.{chain, tagged, enough, shown}
@@ -428,7 +428,7 @@ unfolding sent_fits
 start_fits w t e l u f = and_both _ _ (is_within 1 (newest w) t l u) f
 
 -- START is sent
-start_kept : (w : World) (k : ℕ) → Formed (link w k) → (q : MessageNumber) → w.administrator.ending ≡ EndSent q → w.used < messages → (e : Entry) → entry_fits e ≡ true
+start_kept : (w : World) (k : ℕ) → Formed (link w k) → (q : MessageNumber) → w.administrator.ending ≡ Some q → w.used < messages → (e : Entry) → entry_fits e ≡ true
     → Formed (send (with_administrator (link w k) (advance w.administrator)) (request START 0 (newest w + 1) e))
 unfolding link with_message
 start_kept w k h q n l e f = formed_send (formed_raise h q n) (request START 0 (newest w + 1) e) (room_raised (link w k) (advance w.administrator) l) fits refl refl
@@ -505,7 +505,7 @@ module _ {w : World} (h : Formed w) {k r : ℕ} (u : Untaken w k r) where
       go (Writing q) p x f e = ends (is_done f) o.entry (and_left (within WRITES READS (client w c).kind) _ (rw p at o.phase)) e
 
   -- the END of the newest view closes
-  starts_kept : (q : MessageNumber) → w.administrator.ending ≡ EndSent q → (t : ℕ) (a : After) → starts w k (chosen (shown w t (taken_with w k))) ≡ done a → Formed a.world
+  starts_kept : (q : MessageNumber) → w.administrator.ending ≡ Some q → (t : ℕ) (a : After) → starts w k (chosen (shown w t (taken_with w k))) ≡ done a → Formed a.world
   unfolding starts
   starts_kept q n t a e =
       let (l, e1) = passed _ _ _ _ e in
@@ -519,9 +519,9 @@ module _ {w : World} (h : Formed w) {k r : ℕ} (u : Untaken w k r) where
       stays : moved (link w k) ≡ done a → Formed a.world
       stays e = subst (λ (x : After). Formed x.world) (done_is e) formed_linked
 
-      ending : (x : Ending) → w.administrator.ending ≡ x → end_of x ≡ r → (q : MessageNumber) × (w.administrator.ending ≡ EndSent q)
-      ending Settled p o = absurd (omega (arith, u.from))
-      ending (EndSent q) p o = (q, p)
+      ending : (x : Ending) → w.administrator.ending ≡ x → end_of x ≡ r → (q : MessageNumber) × (w.administrator.ending ≡ Some q)
+      ending None p o = absurd (omega (arith, u.from))
+      ending (Some q) p o = (q, p)
 
       finishing : end_of w.administrator.ending ≡ r → (b : Bool) → if b (starts w k (chosen (shown w t (taken_with w k)))) (moved (link w k)) ≡ done a → Formed a.world
       finishing o true e = let (q, p) = ending w.administrator.ending refl o in starts_kept q p t a e
@@ -590,7 +590,7 @@ unfolding with_view with_administrator send
 send_call w a t v m h = h
 
 call_kept : (w : World) (m : Message) → Formed (send w m) → (v : View) (a : Administrator) → sized v ≡ true → newest w < views → a.newest ≡ w.administrator.newest → (r : ℕ) → a.ending
-    ≡ EndSent (number r)
+    ≡ Some (number r)
     → is_sent (send w m) r END 0 ≡ true → (message (send w m) r).view.0 ≡ newest w → Formed (with_view (with_administrator (send w m) a) (newest w + 1) v)
 unfolding send
 call_kept w m f v a z n p r q i t = formed_call f v a z n p r q i t
@@ -608,7 +608,7 @@ new_view_kept {w} h v a e =
     m : Message
     m = request END 0 (newest w) empty
 
-    go : (b : Administrator) → b ≡ record { newest = w.administrator.newest; ending = EndSent (number (w.used + 1)) } → sized v ≡ true → newest w < views → w.used < messages
+    go : (b : Administrator) → b ≡ record { newest = w.administrator.newest; ending = Some (number (w.used + 1)) } → sized v ≡ true → newest w < views → w.used < messages
         → Formed (send (with_view (with_administrator w b) (newest w + 1) v) m)
     go b q z n l =
         let f = formed_send h m l (end_fits_lem h) refl refl in
@@ -639,7 +639,7 @@ pub record Ended (w : World) (r : ℕ) : Type 0 where
   pub tag : (message w r).view.0 ≡ newest w
   pub full : Rooted w r
 
-pub ended : {w : World} → Formed w → (r : MessageNumber) → w.administrator.ending ≡ EndSent r → Ended w r.0
+pub ended : {w : World} → Formed w → (r : MessageNumber) → w.administrator.ending ≡ Some r → Ended w r.0
 unfolding is_sent
 ended {w} h r e =
     let f = subst (λ (x : Ending). ending_fits w x ≡ true) e h.ending in
@@ -656,9 +656,9 @@ ended {w} h r e =
       full = record { short = short h r.0 l u k; chain = chained w r.0 (h.chained r.0 l u) k };
     }
 
-pub end_sent : (x : Ending) → is_ending x ≡ true → (r : MessageNumber) × (x ≡ EndSent r)
-end_sent Settled e = clash e refl
-end_sent (EndSent r) e = (r, refl)
+pub end_sent : (x : Ending) → is_ending x ≡ true → (r : MessageNumber) × (x ≡ Some r)
+end_sent None e = clash e refl
+end_sent (Some r) e = (r, refl)
 
 -- the END of w with the number r, emptied
 module _ {w : World} (h : Formed w) {r : ℕ} (d : Ended w r) where
@@ -673,7 +673,7 @@ module _ {w : World} (h : Formed w) {r : ℕ} (d : Ended w r) where
   unfolding sent content
   emptied_tag = ap (λ (m : Message). m.view.0) (emptied_sent d.full r) ∙ d.tag
 
-  replaced_kept : (v : View) → sized v ≡ true → w.administrator.ending ≡ EndSent (number r) → Formed (with_view (with_administrator (emptied w r) w.administrator) (newest w + 1) v)
+  replaced_kept : (v : View) → sized v ≡ true → w.administrator.ending ≡ Some (number r) → Formed (with_view (with_administrator (emptied w r) w.administrator) (newest w + 1) v)
   unfolding emptied as_sent
   replaced_kept v z e = formed_call (formed_emptied h d.full) v w.administrator z d.room refl r e emptied_end emptied_tag
 
@@ -686,7 +686,7 @@ restarts_kept {w} h v a e =
     let (r, q) = end_sent _ p in
     subst (λ (x : After). Formed x.world) (done_is g.on) (rw (is_done f2) (go r q (keeps_view v) z))
   where
-    go : (r : MessageNumber) → w.administrator.ending ≡ EndSent r → (b : Bool) → (b || sized v) ≡ true
+    go : (r : MessageNumber) → w.administrator.ending ≡ Some r → (b : Bool) → (b || sized v) ≡ true
         → Formed (if b (with_administrator (emptied w (end_of w.administrator.ending)) w.administrator)
         (with_view (with_administrator (emptied w (end_of w.administrator.ending)) w.administrator) (newest w + 1) v))
     go r q true z = subst (λ (x : Ending). Formed (with_administrator (emptied w (end_of x)) w.administrator)) (sym q) (stopped_kept h (ended h r q))

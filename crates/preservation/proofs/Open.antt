@@ -1,13 +1,12 @@
 -- Which requests wait for answers, by a search over all phases. Assumes nothing.
-use Rattle.std.specs.Prelude.{ℕ, ◌≤◌, Bool, false, ◌≡◌, refl, ltb, eqb}
+use Rattle.std.specs.Prelude.{ℕ, ◌≤◌, Bool, false, ◌≡◌, refl, ltb, eqb, None, Some}
 use Rattle.std.proofs.Common.{arith}
 use Rattle.std.proofs.Math.Bool.{true}
 use Rattle.std.proofs.Math.Path.{subst}
 use borrow.Author.Tests.{eqb-true, eqb-false, eq-eqb, ne_eqb, le-leb}
 use Rattle.protocol.specs.declared.Phase.{Phase}
 use Rattle.protocol.specs.declared.Phase.TheVariants.{Idle, Reading, Writing}
-use Rattle.protocol.specs.declared.Ending.{Ending}
-use Rattle.protocol.specs.declared.Ending.TheVariants.{Settled, EndSent}
+use Rattle.protocol.specs.Types.{Ending}
 use Rattle.protocol.specs.Tools.{if, within}
 use Rattle.protocol.specs.Sizes.{clients, views}
 use Rattle.protocol.specs.Servers.{READ, WRITE, END, is_request}
@@ -48,8 +47,8 @@ module _ (w : World) (h : Formed w) (r : ℕ) (p : present w r ≡ true) where
   open_end q = go w.administrator.ending q h.ending
     where
       kind : (x : Ending) → end_of x ≡ r → ending_fits w x ≡ true → (message w r).kind ≡ END
-      kind Settled e f = let (a, b) = present_is w r p in absurd (omega (arith, e))
-      kind (EndSent n) e f =
+      kind None e f = let (a, b) = present_is w r p in absurd (omega (arith, e))
+      kind (Some n) e f =
           let i = (sent_kind w n.0 END 0 (and_left _ _ (and_right (ltb (newest w) views) _ f))).0 in
           subst (λ (k : ℕ). (message w k).kind ≡ END) e i
 

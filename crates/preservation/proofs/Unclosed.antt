@@ -1,9 +1,8 @@
 -- While END is open, its taken answers with the newest view come from fewer servers than close it (`Unclosed`): so it is in a fresh
 -- world, and every accepted step keeps it (`step_unclosed`). Used by Cut alone. Assumes nothing.
-use Rattle.std.specs.Prelude.{ℕ, zero, suc, ◌+◌, ◌≤◌, ◌<◌, Bool, not, ◌&&◌, ◌≡◌, ◌⊎◌, ◌≢◌, List, [], ◌∷◌, leb, eqb}
+use Rattle.std.specs.Prelude.{ℕ, zero, suc, ◌+◌, ◌≤◌, ◌<◌, Bool, not, ◌&&◌, ◌≡◌, ◌⊎◌, ◌≢◌, List, [], ◌∷◌, leb, eqb, Option, None, Some}
 use Rattle.std.proofs.Common.{arith, sym, ◌∙◌, inl, inr, eqb-true, eq-eqb}
 use Rattle.std.proofs.Math.Bool.{true, false}
-use Rattle.std.proofs.Math.Option.{Option, none, some}
 use Rattle.std.proofs.Math.Path.{refl, ap, subst}
 use Rattle.std.proofs.lemmas.Bool.{eqb-false, lt-leb, not-true}
 use Rattle.protocol.specs.declared.MessageNumber.{MessageNumber}
@@ -15,8 +14,7 @@ use Rattle.protocol.specs.declared.Message.{Message}
 use Rattle.protocol.specs.declared.Shown.{Shown}
 use Rattle.protocol.specs.declared.Step.{Step}
 use Rattle.protocol.specs.declared.Administrator.{Administrator}
-use Rattle.protocol.specs.declared.Ending.{Ending}
-use Rattle.protocol.specs.declared.Ending.TheVariants.{Settled, EndSent}
+use Rattle.protocol.specs.Types.{Ending}
 use Rattle.protocol.specs.Tools.{if, count_to, any, all, Result, done, guard, passed}
 use Rattle.protocol.specs.Sizes.{servers, messages, sized, write_size}
 use Rattle.protocol.specs.Entries.{empty}
@@ -94,7 +92,7 @@ all_true (k ∷ ks) = all_true ks
 record Same (w v : World) : Type 0 where
   administrator : v.administrator ≡ w.administrator
   view : view v (newest w) ≡ view w (newest w)
-  mail : (r : MessageNumber) → w.administrator.ending ≡ EndSent r → (i : ℕ) → (i ≡ r.0) ⊎ Is w r.0 i → message v i ≡ message w i
+  mail : (r : MessageNumber) → w.administrator.ending ≡ Some r → (i : ℕ) → (i ≡ r.0) ⊎ Is w r.0 i → message v i ≡ message w i
 
 empty_chain : (w : World) (r : ℕ) → (message w r).next.0 ≡ 0 → chain w r ≡ []
 unfolding chain follow
@@ -105,7 +103,7 @@ module _ {w : World} (h : Formed w) (g : Unclosed w) where
   unfolding chain sent
   same_unclosed {v} s = record { few = λ r e. go r (ap (λ (x : Administrator). x.ending) (sym s.administrator) ∙ e) }
     where
-      go : (r : MessageNumber) → w.administrator.ending ≡ EndSent r → enough v (newest v) (chain v r.0) (write_size (view v (newest v))) ≡ false
+      go : (r : MessageNumber) → w.administrator.ending ≡ Some r → enough v (newest v) (chain v r.0) (write_size (view v (newest v))) ≡ false
       go r e =
           let c = (ended h r e).full.chain in
           let p : chain v r.0 ≡ chain w r.0 =
@@ -119,7 +117,7 @@ module _ {w : World} (h : Formed w) (g : Unclosed w) where
   unfolding send view
   same_send {v} s u m = record { administrator = s.administrator; view = s.view; mail = λ r e i d. message_send v m i (low r e i d) ∙ s.mail r e i d }
     where
-      low : (r : MessageNumber) → w.administrator.ending ≡ EndSent r → (i : ℕ) → (i ≡ r.0) ⊎ Is w r.0 i → i ≤ v.used
+      low : (r : MessageNumber) → w.administrator.ending ≡ Some r → (i : ℕ) → (i ≡ r.0) ⊎ Is w r.0 i → i ≤ v.used
       low r e i (inl q) = omega (arith, (ended h r e).full.short.below)
       low r e i (inr q) = omega (arith, q.below)
 
@@ -140,14 +138,14 @@ same_link : {w : World} → Formed w → {k q : ℕ} → Untaken w k q → eqb (
 unfolding link with_message view
 same_link {w} h {k} {q} u n = record { administrator = refl; view = refl; mail = λ r e i d. v_other u i (not_k r e i d) (not_q r e i d) }
   where
-    is_end : (r : MessageNumber) → w.administrator.ending ≡ EndSent r → (message w r.0).kind ≡ END
+    is_end : (r : MessageNumber) → w.administrator.ending ≡ Some r → (message w r.0).kind ≡ END
     is_end r e = (ended h r e).is
 
-    not_k : (r : MessageNumber) → w.administrator.ending ≡ EndSent r → (i : ℕ) → (i ≡ r.0) ⊎ Is w r.0 i → i ≢ k
+    not_k : (r : MessageNumber) → w.administrator.ending ≡ Some r → (i : ℕ) → (i ≡ r.0) ⊎ Is w r.0 i → i ≢ k
     not_k r e i (inl p) z = omega (arith, u.is, ap (λ (x : ℕ). (message w x).kind) (sym z ∙ p), is_end r e)
     not_k r e i (inr p) z = clash p.taken (ap (λ (x : ℕ). (message w x).taken) z ∙ u.free)
 
-    not_q : (r : MessageNumber) → w.administrator.ending ≡ EndSent r → (i : ℕ) → (i ≡ r.0) ⊎ Is w r.0 i → i ≢ q
+    not_q : (r : MessageNumber) → w.administrator.ending ≡ Some r → (i : ℕ) → (i ≡ r.0) ⊎ Is w r.0 i → i ≢ q
     not_q r e i (inl p) z = eqb-false _ _ n (ap (λ (x : ℕ). (message w x).kind) (sym z ∙ p) ∙ is_end r e)
     not_q r e i (inr p) z = clash (eq-eqb _ _ p.is) (subst (λ (x : ℕ). eqb (message w x).kind ANSWER ≡ false) (sym z) (not_answer (message w q).kind u.asked))
 
@@ -156,7 +154,7 @@ same_link {w} h {k} {q} u n = record { administrator = refl; view = refl; mail =
 abbrev Keeps : Result After → Type 0
 Keeps x = Yields (λ (a : After). Unclosed a.world) x
 
-pub settled_unclosed : (w : World) → w.administrator.ending ≡ Settled → Unclosed w
+pub settled_unclosed : (w : World) → w.administrator.ending ≡ None → Unclosed w
 settled_unclosed w s = record { few = λ r e. clash refl (ap is_ending (sym e ∙ s)) }
 
 module _ {w : World} (h : Formed w) (g : Unclosed w) where
@@ -173,8 +171,8 @@ module _ {w : World} (h : Formed w) (g : Unclosed w) where
 
   answers_keeps : (x : Option Shown) (s n : ℕ) (a : Server) → Keeps (answers x w s n a)
   unfolding with_server
-  answers_keeps none s n a = keeps_same (same_server (same_self w) s a)
-  answers_keeps (some x) s n a = keeps_send (same_server (same_self w) s a) refl (room w) (answer s n x)
+  answers_keeps None s n a = keeps_same (same_server (same_self w) s a)
+  answers_keeps (Some x) s n a = keeps_send (same_server (same_self w) s a) refl (room w) (answer s n x)
 
   deliver_keeps : (s n : ℕ) → Keeps (deliver w s n)
   unfolding deliver
@@ -210,7 +208,7 @@ module _ {w : World} (h : Formed w) (g : Unclosed w) where
 
     -- an answer to END that does not close it
     module _ (o : end_of w.administrator.ending ≡ r) (n : (eqb t (newest w) && enough w t (taken_with w k) (write_size (view w t))) ≡ false) where
-      few_with : (q : MessageNumber) → w.administrator.ending ≡ EndSent q → enough w (newest w) (k ∷ chain w r) (write_size (view w (newest w))) ≡ false
+      few_with : (q : MessageNumber) → w.administrator.ending ≡ Some q → enough w (newest w) (k ∷ chain w r) (write_size (view w (newest w))) ≡ false
       few_with q e = go (by_bool (eqb t (newest w)))
         where
           j : q.0 ≡ r
@@ -225,7 +223,7 @@ module _ {w : World} (h : Formed w) (g : Unclosed w) where
               enough_other w (newest w) _ k (chain w r) (ap (λ (x : ℕ). eqb x (newest w)) i ∙ z)
               ∙ subst (λ (x : ℕ). enough w (newest w) (chain w x) (write_size (view w (newest w))) ≡ false) j (g.few q e)
 
-      few_linked : (q : MessageNumber) → w.administrator.ending ≡ EndSent q → enough (link w k) (newest w) (chain (link w k) q.0) (write_size (view w (newest w))) ≡ false
+      few_linked : (q : MessageNumber) → w.administrator.ending ≡ Some q → enough (link w k) (newest w) (chain (link w k) q.0) (write_size (view w (newest w))) ≡ false
       few_linked q e =
           let j : q.0 ≡ r = sym (ap end_of e) ∙ o in
           let c : Chained w r = subst (Chained w) j (ended h q e).full.chain in
@@ -252,7 +250,7 @@ module _ {w : World} (h : Formed w) (g : Unclosed w) where
       takes_keeps (untaken h k p (not-true _ (and_left (not (message w k).taken) _ o))) refl (and_right (not (message w k).taken) _ o)))
 
 -- an END without taken answers
-bare_unclosed : (v : World) (r : ℕ) → v.administrator.ending ≡ EndSent (number r) → (message v r).next.0 ≡ 0 → 1 ≤ write_size (view v (newest v)) → Unclosed v
+bare_unclosed : (v : World) (r : ℕ) → v.administrator.ending ≡ Some (number r) → (message v r).next.0 ≡ 0 → 1 ≤ write_size (view v (newest v)) → Unclosed v
 bare_unclosed v r e n l = record { few = λ q f. go q (sym (ap end_of e) ∙ ap end_of f) }
   where
     go : (q : MessageNumber) → r ≡ q.0 → enough v (newest v) (chain v q.0) (write_size (view v (newest v))) ≡ false
@@ -266,7 +264,7 @@ called_view w a v m = view_other w (newest w + 1) v (newest w) (λ e. omega arit
 
 module _ {w : World} (h : Formed w) (v : View) where
   -- a new one
-  called_bare : (a : Administrator) → a ≡ record { newest = w.administrator.newest; ending = EndSent (number (w.used + 1)) } → w.used < messages
+  called_bare : (a : Administrator) → a ≡ record { newest = w.administrator.newest; ending = Some (number (w.used + 1)) } → w.used < messages
       → Unclosed (send (with_view (with_administrator w a) (newest w + 1) v) (request END 0 (newest w) empty))
   unfolding send with_view with_administrator
   called_bare a q l =
@@ -281,7 +279,7 @@ module _ {w : World} (h : Formed w) (v : View) where
       (λ a q. yields_guard (room w) 10 _ (λ l. yields_moved _ (called_bare a (is_done (passed _ _ _ _ (passed _ _ _ _ q).1).1) (room_left w l))))
 
   -- that of a restart
-  module _ (r : MessageNumber) (e : w.administrator.ending ≡ EndSent r) where
+  module _ (r : MessageNumber) (e : w.administrator.ending ≡ Some r) where
     no_next : (message (emptied w r.0) r.0).next.0 ≡ 0
     unfolding sent content
     no_next = let f = (ended h r e).full in ap (λ (m : Message). m.next.0) (emptied_in f r.0 (among_request f))

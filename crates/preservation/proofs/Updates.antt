@@ -3,7 +3,7 @@ use Prim.Native.Nat.{ℕ, ◌+◌, ◌^◌, ◌≤◌, ◌<◌}
 use Rattle.std.proofs.Math.Nat.{le_refl}
 use Rattle.std.proofs.Math.Decide.{ℕ_discrete, dec_le}
 use native.Mathlib.Omega.{arith}
-use Rattle.std.specs.Prelude.{Bool, not, ◌&&◌, ◌||◌, ◌≡◌, ◌⊎◌, ◌≢◌, length, ltb, leb, eqb}
+use Rattle.std.specs.Prelude.{Bool, not, ◌&&◌, ◌||◌, ◌≡◌, ◌⊎◌, ◌≢◌, length, ltb, leb, eqb, Some}
 use Rattle.std.proofs.Math.Bool.{true, false}
 use Rattle.std.proofs.Math.Path.{refl, sym, ap, subst}
 use Rattle.std.proofs.Common.{ap₂, ◌∙◌, pow_mono, ltb-true, leb-true, lt-ltb, le-leb, eq-eqb}
@@ -19,8 +19,7 @@ use Rattle.protocol.specs.declared.Server.{Server}
 use Rattle.protocol.specs.declared.Client.{Client}
 use Rattle.protocol.specs.declared.Message.{Message}
 use Rattle.protocol.specs.declared.Administrator.{Administrator}
-use Rattle.protocol.specs.declared.Ending.{Ending}
-use Rattle.protocol.specs.declared.Ending.TheVariants.{EndSent}
+use Rattle.protocol.specs.Types.{Ending}
 use Rattle.protocol.specs.Tools.{if, within, all, bit_of, replace}
 use Rattle.protocol.specs.Sizes.{clients, servers, views, messages, sized}
 use Rattle.protocol.specs.Entries.{entry_fits}
@@ -450,7 +449,7 @@ module _ {w : World} (h : Formed w) {r : ℕ} (f : Rooted w r) where
 -- ---- the administrator
 
 -- "t+1 becomes the newest": the pending view is there already
-module _ {w : World} (h : Formed w) (r : MessageNumber) (e : w.administrator.ending ≡ EndSent r) where
+module _ {w : World} (h : Formed w) (r : MessageNumber) (e : w.administrator.ending ≡ Some r) where
   abbrev raised : World
   raised = with_administrator w (advance w.administrator)
 
@@ -517,7 +516,7 @@ unfolding view_fits
 view_zero w t e h = rw (lt-leb t (last_view w) h) at e
 
 -- "its members and f are recorded and END t is sent": r is that END, just sent or, for a restart, still open
-module _ {w : World} (h : Formed w) (v : View) (a : Administrator) (z : sized v ≡ true) (n : newest w < views) (p : a.newest ≡ w.administrator.newest) (r : ℕ) (q : a.ending ≡ EndSent (number r))
+module _ {w : World} (h : Formed w) (v : View) (a : Administrator) (z : sized v ≡ true) (n : newest w < views) (p : a.newest ≡ w.administrator.newest) (r : ℕ) (q : a.ending ≡ Some (number r))
     (i : is_sent w r END 0 ≡ true) (t : (message w r).view.0 ≡ newest w) where
   abbrev called : World
   called = with_view (with_administrator w a) (newest w + 1) v
@@ -577,7 +576,7 @@ module _ {w : World} (h : Formed w) (v : View) (a : Administrator) (z : sized v 
       tag : (message called r).view.0 ≡ newest called
       tag = ap (λ (m : Message). m.view.0) (called_message r) ∙ t ∙ sym called_newest
 
-      is_ending_lem : called.administrator.ending ≡ EndSent (number r)
+      is_ending_lem : called.administrator.ending ≡ Some (number r)
       is_ending_lem = ending_called w a (newest w + 1) v ∙ q
 
   pub formed_call : Formed called

@@ -1,7 +1,6 @@
 -- Computed runs of a restart of the administrator, on servers 1 to 4 with f 1. Assumes nothing.
-use Rattle.std.specs.Prelude.{ℕ, true, false, ◌≡◌, refl, List, [], ◌∷◌, ◌++◌}
-use Rattle.std.proofs.Math.Option.{none}
-use Rattle.protocol.specs.Types.{Reading, EndSent}
+use Rattle.std.specs.Prelude.{ℕ, true, false, ◌≡◌, refl, List, [], ◌∷◌, ◌++◌, None, Some}
+use Rattle.protocol.specs.Types.{Reading}
 use Rattle.protocol.specs.Entries.{entry}
 use Rattle.protocol.specs.Servers.{START}
 use Rattle.protocol.specs.Sizes.{view_with}
@@ -34,7 +33,7 @@ unfolding stop_of renewed filed ending
 renewed_stop = refl
 
 -- "new member bits for the pending view, with f, and r in who"; END stays open, the old view newest
-renewed_view : (view (run_of 15 1 renewed).world 2 ≡ view_with 124 0 2) × (newest (run_of 15 1 renewed).world ≡ 1) × ((run_of 15 1 renewed).world.administrator.ending ≡ EndSent (number 15))
+renewed_view : (view (run_of 15 1 renewed).world 2 ≡ view_with 124 0 2) × (newest (run_of 15 1 renewed).world ≡ 1) × ((run_of 15 1 renewed).world.administrator.ending ≡ Some (number 15))
 unfolding run_of renewed filed ending
 renewed_view = (refl, refl, refl)
 
@@ -74,7 +73,7 @@ again_premise = refl
 
 -- the reads before and after are equal
 again_operations : operations_of 15 1 (closed ++ read_again)
-    ≡ (operated WRITES 1 13 (entry 1 1 7) ∷ operated READS 14 20 (entry 1 1 7) ∷ record { kind = READS; begin = 21; end = 0; entry = none } ∷ operated READS 38 50 (entry 1 1 7) ∷ [])
+    ≡ (operated WRITES 1 13 (entry 1 1 7) ∷ operated READS 14 20 (entry 1 1 7) ∷ record { kind = READS; begin = 21; end = 0; entry = None } ∷ operated READS 38 50 (entry 1 1 7) ∷ [])
 unfolding operations_of closed renewed filed ending read_again
 again_operations = refl
 

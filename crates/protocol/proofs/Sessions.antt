@@ -1,6 +1,5 @@
 -- Runs computed on the definitions: they are about something. Assumes nothing.
-use Rattle.std.specs.Prelude.{ℕ, Bool, true, false, ◌≡◌, refl, List, [], ◌∷◌, ◌++◌}
-use Rattle.std.proofs.Math.Option.{none, some}
+use Rattle.std.specs.Prelude.{ℕ, Bool, true, false, ◌≡◌, refl, List, [], ◌∷◌, ◌++◌, None, Some}
 use Rattle.protocol.specs.Types.{Entry, Idle, Reading, Writing}
 use Rattle.protocol.specs.Tools.{count_to, all_to, any, holds, bit_of, nth, replace, done, guard, all}
 use Rattle.protocol.specs.Sizes.{view_with, quorum, size, sized, read_size, write_size, one_exchange}
@@ -80,7 +79,7 @@ stops steps refusal = record { steps = steps; refusal = refusal }
 
 -- an operation of a history
 abbrev pub operated : ℕ → ℕ → ℕ → Entry → Operation
-operated kind begin end e = record { kind = kind; begin = begin; end = end; entry = some e }
+operated kind begin end e = record { kind = kind; begin = begin; end = end; entry = Some e }
 
 -- ---- document 01's worked session: members {1}, f 0
 
@@ -221,7 +220,7 @@ given_up_lem =
     ∷ read 2 ∷ deliver_to 9 1 ∷ take_one 10 ∷ deliver_to 7 1 ∷ take_one 11 ∷ give_up_lem 1 ∷ []
 
 given_up_history : operations_of 1 0 given_up_lem
-    ≡ (record { kind = WRITES; begin = 1; end = 0; entry = none } ∷ operated WRITES 3 0 (entry 1 1 8) ∷ operated WRITES 7 16 (entry 2 1 9) ∷ operated READS 12 14 (entry 1 1 8) ∷ [])
+    ≡ (record { kind = WRITES; begin = 1; end = 0; entry = None } ∷ operated WRITES 3 0 (entry 1 1 8) ∷ operated WRITES 7 16 (entry 2 1 9) ∷ operated READS 12 14 (entry 1 1 8) ∷ [])
 unfolding operations_of given_up_lem
 given_up_history = refl
 

@@ -1,7 +1,6 @@
 -- The rules of one client and of the administrator. Assumes nothing.
-use Rattle.std.specs.Prelude.{ℕ, ◌+◌, Bool, true, false, not, ◌&&◌, ◌||◌, ltb, leb, eqb}
-use Rattle.std.proofs.Math.Option.{Option, none, some}
-use Rattle.protocol.specs.Types.{StampCount, MessageNumber, Entry, View, Phase, Idle, Reading, Writing, Client, Ending, Settled, EndSent, Administrator, Begun, BeginRefused, Began, GivenUp, GiveUpRefused, GaveUp, Choice, Taken, Open, Closed, Closing, CloseRefused, WritesNext, Completed, Called, CallRefused, Calling}
+use Rattle.std.specs.Prelude.{ℕ, ◌+◌, Bool, true, false, not, ◌&&◌, ◌||◌, ltb, leb, eqb, None, Some}
+use Rattle.protocol.specs.Types.{StampCount, MessageNumber, Entry, View, Phase, Idle, Reading, Writing, Client, Ending, Administrator, Closing, WritesNext, Completed}
 use Rattle.protocol.specs.Tools.{if, Result, refused, done, guard}
 use Rattle.protocol.specs.Sizes.{views, last_count, sized, read_size, write_size}
 use Rattle.protocol.specs.Entries.{entry, empty, count_of}
@@ -94,19 +93,19 @@ give_up c = guard (not (is_idle c.phase)) 12 (done (record { phase = Idle; kind 
 
 -- "END number u16 (0 unless ending)"
 abbrev pub end_of : Ending → ℕ
-end_of Settled = 0
-end_of (EndSent r) = r.0
+end_of None = 0
+end_of (Some r) = r.0
 
 abbrev pub is_ending : Ending → Bool
-is_ending Settled = false
-is_ending (EndSent r) = true
+is_ending None = false
+is_ending (Some r) = true
 
 -- "New view t+1, t being the newest: its members and f are recorded and END t is sent", number n.
 -- "4, ending; 8, size rule broken or newest is 32"
 unfoldable pub call : Administrator → View → ℕ → Result Administrator
 call a v n =
     guard (not (is_ending a.ending)) 4
-    (guard (sized v && ltb a.newest.0 views) 8 (done (record { newest = a.newest; ending = EndSent (number n) })))
+    (guard (sized v && ltb a.newest.0 views) 8 (done (record { newest = a.newest; ending = Some (number n) })))
 
 -- a restart of the administrator without member bits: the pending view stays
 abbrev pub keeps_view : View → Bool
@@ -122,26 +121,9 @@ restart a v = guard (is_ending a.ending) 7 (guard (keeps_view v || sized v) 8 (d
 
 -- "t+1 becomes the newest"
 unfoldable pub advance : Administrator → Administrator
-advance a = record { newest = record { 0 = a.newest.0 + 1 }; ending = Settled }
+advance a = record { newest = record { 0 = a.newest.0 + 1 }; ending = None }
 
--- the number and values of each case of the answers
-abbrev pub begun : Begun → Result Client
-begun (BeginRefused n) = refused n
-begun (Began c) = done c
-
-abbrev pub given_up : GivenUp → Result Client
-given_up (GiveUpRefused n) = refused n
-given_up (GaveUp c) = done c
-
-abbrev pub taken : Taken → Option Choice
-taken Open = none
-taken (Closed x) = some x
-
-abbrev pub closing : Closing → Result Close
-closing (CloseRefused n) = refused n
-closing (WritesNext c) = done (record { client = c; complete = false })
-closing (Completed c) = done (record { client = c; complete = true })
-
-abbrev pub called : Called → Result Administrator
-called (CallRefused n) = refused n
-called (Calling a) = done a
+-- the client of each case, and whether its operation is complete
+abbrev pub closing : Closing → Close
+closing (WritesNext c) = record { client = c; complete = false }
+closing (Completed c) = record { client = c; complete = true }

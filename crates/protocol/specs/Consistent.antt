@@ -1,6 +1,5 @@
 -- Demand 3's claim about a history of operations. Assumes nothing.
-use Rattle.std.specs.Prelude.{ℕ, ◌<◌, ◌≡◌, ◌↔◌, List, [], ◌∷◌}
-use Rattle.std.proofs.Math.Option.{Option, some}
+use Rattle.std.specs.Prelude.{ℕ, ◌<◌, ◌≡◌, ◌↔◌, List, [], ◌∷◌, Option, Some}
 use Rattle.protocol.specs.Types.{Entry}
 use Rattle.protocol.specs.Entries.{empty}
 use Rattle.protocol.specs.Clients.{WRITES, READS}
@@ -65,7 +64,7 @@ pub record Ordered (h order : List Operation) : Type 0 where
   pub once : Once order
   pub members : (x : Operation) → In x order ↔ (In x h × Stands h x)
   pub real_time : (x y : Operation) → In x order → In y order → Ended x y → Before x y order
-  pub reads : Reads (some empty) order
+  pub reads : Reads (Some empty) order
   -- "Two completed reads are equal exactly when no write stands between them."
   pub equal : (x y : Operation) → x.kind ≡ READS → y.kind ≡ READS → Before x y order → (x.entry ≡ y.entry) ↔ (Between order x y → ⊥)
 

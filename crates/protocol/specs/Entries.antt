@@ -1,5 +1,5 @@
 -- Entries and their stamps. Assumes nothing.
-use Rattle.std.specs.Prelude.{ℕ, ◌^◌, Bool, ◌&&◌, ◌||◌, List, [], ◌∷◌, ltb, leb, eqb}
+use Rattle.std.specs.Prelude.{ℕ, ◌^◌, Bool, ◌&&◌, ◌||◌, List, [], ◌∷◌, ltb, leb, eqb, ◌≡◌}
 use Rattle.protocol.specs.Types.{Entry}
 use Rattle.protocol.specs.Tools.{if}
 use Rattle.protocol.specs.Sizes.{clients}
@@ -43,3 +43,7 @@ same a b = eqb (count_of a) (count_of b) && (eqb (writer_of a) (writer_of b) && 
 -- the ranges of an entry's fields: "writers are at most 16"
 unfoldable pub entry_fits : Entry → Bool
 entry_fits e = ltb (count_of e) (2 ^ 32) && (leb (writer_of e) clients && ltb e.value (2 ^ 32))
+
+-- an entry whose fields are all zero, as `Entry::default` gives it
+pub empty_is : {e : Entry} → ((e.stamp.count.0 ≡ 0) × (e.stamp.writer ≡ 0)) × (e.value ≡ 0) → e ≡ empty
+empty_is {e} z = λ i. record { stamp = record { count = record { 0 = z.0.0 i }; writer = z.0.1 i }; value = z.1 i }

@@ -1,5 +1,6 @@
 pub mod Types
 pub mod Tools
+pub mod Refusals
 pub mod Sizes
 pub mod Entries
 pub mod Servers
@@ -9,4 +10,5 @@ pub mod Chains
 pub mod Readable
 pub mod Steps
 pub mod Consistent
+pub mod Kinds
 pub mod Runs

@@ -2,8 +2,8 @@
 -- `server_rule`, `idle_rule`, `reading_rule`, `message_rule` ..), said of a record and of what it must know of its world: newest is the
 -- world's newest view, and 32 for a host that knows none. `values` tests these rules, `checked` and `image` use them. The clauses of a
 -- world (`view_fits` ..) are its records' rules; `Formed` in Laws takes them apart.
-use Rattle.std.specs.Prelude.{ℕ, suc, ◌+◌, ◌^◌, Bool, true, not, ◌&&◌, ◌||◌, List, [], ◌∷◌, length, ltb, leb, eqb}
-use Rattle.protocol.specs.Types.{View, Server, Phase, Idle, Reading, Writing, Client, Ending, Settled, EndSent, Administrator, Message}
+use Rattle.std.specs.Prelude.{ℕ, suc, ◌+◌, ◌^◌, Bool, true, not, ◌&&◌, ◌||◌, List, [], ◌∷◌, length, ltb, leb, eqb, None, Some}
+use Rattle.protocol.specs.Types.{View, Server, Phase, Idle, Reading, Writing, Client, Ending, Administrator, Message}
 use Rattle.protocol.specs.Tools.{if, within, bit, all_to, any, all, bit_of}
 use Rattle.protocol.specs.Sizes.{clients, servers, views, messages, sized}
 use Rattle.protocol.specs.Entries.{empty, count_of, writer_of, same, entry_fits}
@@ -24,8 +24,8 @@ is_sent w n kind sender = present w n && (eqb (message w n).kind kind && eqb (me
 
 -- "while ending, newest is below 32 and the END is that of newest"; "the END number name[s] a message of the right kind and sender"
 abbrev pub ending_fits : World → Ending → Bool
-ending_fits w Settled = true
-ending_fits w (EndSent r) = ltb (newest w) views && (is_sent w r.0 END 0 && eqb (message w r.0).view.0 (newest w))
+ending_fits w None = true
+ending_fits w (Some r) = ltb (newest w) views && (is_sent w r.0 END 0 && eqb (message w r.0).view.0 (newest w))
 
 unfoldable pub header_fits : World → Bool
 header_fits w = leb w.used messages && (within 1 views (newest w) && ending_fits w w.administrator.ending)

@@ -1,6 +1,5 @@
 -- Journals, runs and their operations. Assumes nothing.
-use Rattle.std.specs.Prelude.{ℕ, ◌+◌, ◌*◌, Bool, true, not, ◌&&◌, ◌||◌, List, [], ◌∷◌, ◌++◌, map, length, get_or, ltb, eqb}
-use Rattle.std.proofs.Math.Option.{Option, none, some}
+use Rattle.std.specs.Prelude.{ℕ, ◌+◌, ◌*◌, Bool, true, not, ◌&&◌, ◌||◌, List, [], ◌∷◌, ◌++◌, map, length, get_or, ltb, eqb, Option, None, Some}
 use Rattle.protocol.specs.Types.{Entry, Phase, Idle, Reading, Writing, Step}
 use Rattle.protocol.specs.Tools.{if, Result, refused, done, guard}
 use Rattle.protocol.specs.Entries.{empty}
@@ -155,8 +154,8 @@ run_from w bs = run (record { world = w; place = 1; operations = [] }) bs
 -- "Its entry is that in its client's record in the image after that take, or for an unfinished write that of its WRITE, if sent."
 unfoldable pub entry_of : World → Tracked → Option Entry
 entry_of w o =
-    if (unfinished o) (if (eqb o.kind WRITES && ltb 0 o.write) (some (message w o.write).entry) none)
-    (some o.entry)
+    if (unfinished o) (if (eqb o.kind WRITES && ltb 0 o.write) (Some (message w o.write).entry) None)
+    (Some o.entry)
 
 unfoldable pub operation : World → Tracked → Operation
 operation w o = record { kind = o.kind; begin = o.begin; end = o.end; entry = entry_of w o }

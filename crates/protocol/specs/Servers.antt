@@ -1,9 +1,9 @@
 -- The rules of one server. Assumes nothing.
-use Rattle.std.specs.Prelude.{ℕ, Bool, not, ◌&&◌, ltb, eqb}
-use Rattle.std.proofs.Math.Option.{Option, none, some}
+use Rattle.std.specs.Prelude.{ℕ, Bool, not, ◌&&◌, ltb, eqb, None, Some}
 use Rattle.std.specs.Int.Bits.{bit_or}
-use Rattle.protocol.specs.Types.{Entry, Server, Message, Shown, Replied, Served, ServeRefused, Kept, Answered}
-use Rattle.protocol.specs.Tools.{if, within, holds, bit_of, Result, refused, done, guard}
+use Rattle.protocol.specs.Types.{Entry, Server, Message}
+pub use Rattle.protocol.specs.declared.Reply.{Reply}
+use Rattle.protocol.specs.Tools.{if, within, holds, bit_of, Result, done, guard}
 use Rattle.protocol.specs.Entries.{below, larger}
 
 -- "READ (1)", "WRITE (2)", "END (3)", "START (4)", "5 answer"
@@ -26,14 +26,9 @@ ANSWER = 5
 abbrev pub is_request : ℕ → Bool
 is_request kind = within READ END kind
 
--- a server's record after a rule, and what it answers, if it does
-pub record Reply : Type 0 where
-  pub server : Server
-  pub answer : Option Shown
-
 -- "it answers with its view and entry": the answer of a, which is then b
 abbrev pub answering : Server → Server → Reply
-answering a b = record { server = b; answer = some (record { view = a.view; entry = a.entry }) }
+answering a b = record { server = b; answer = Some (record { view = a.view; entry = a.entry }) }
 
 -- The three parts of WRITE, in the sequence of document 000 (figure 10, write). Compare the held stamp: "if (m_ts < ts)".
 unfoldable pub comparing : Server → Entry → Bool
@@ -77,8 +72,8 @@ abbrev pub start : Server → Message → Bool → Result Reply
 start a m member =
     guard (member && ltb a.view.0 m.view.0) 7
     (if a.faulty
-    (guard (not (holds a.keys.0 m.view.0)) 7 (done (record { server = gathering a m; answer = none })))
-    (done (record { server = joining a m; answer = none })))
+    (guard (not (holds a.keys.0 m.view.0)) 7 (done (record { server = gathering a m; answer = None })))
+    (done (record { server = joining a m; answer = None })))
 
 -- "A correct server serves kinds 1 to 3 while it holds the key of its own view; START asks for no key."
 -- Refusals: 5, an answer or no message; "6, the server is faulty and the kind is 1 to 3; 7, the server's rule does not apply".
@@ -95,13 +90,3 @@ serve a m member =
 unfoldable pub may_answer : Server → ℕ → Message → Bool → Result Server
 may_answer a t m source =
     guard (is_request m.kind && source) 5 (guard a.faulty 6 (guard (holds a.keys.0 t) 9 (done a)))
-
--- the values of a server that answers
-abbrev pub as_reply : Replied → Reply
-as_reply r = record { server = r.server; answer = some r.shown }
-
--- the number and values of each case of a server's answer
-abbrev pub served : Served → Result Reply
-served (ServeRefused n) = refused n
-served (Kept a) = done (record { server = a; answer = none })
-served (Answered a s) = done (record { server = a; answer = some s })

@@ -1,6 +1,5 @@
 -- The steps of a world, kinds 1 to 9, each with its refusals in the order tested. Assumes nothing.
-use Rattle.std.specs.Prelude.{ℕ, ◌+◌, ◌/◌, ◌%◌, Bool, true, false, not, ◌&&◌, ◌||◌, List, [], ◌∷◌, get_or, eqb}
-use Rattle.std.proofs.Math.Option.{Option, none, some}
+use Rattle.std.specs.Prelude.{ℕ, ◌+◌, ◌/◌, ◌%◌, Bool, true, false, not, ◌&&◌, ◌||◌, List, [], ◌∷◌, get_or, eqb, Option, None, Some}
 use Rattle.protocol.specs.Types.{Entry, View, Server, Message, Step, Range, Shown}
 use Rattle.protocol.specs.Tools.{if, within, Result, done, guard, then}
 use Rattle.protocol.specs.Sizes.{clients, servers, views, messages, view_with, write_size, one_exchange}
@@ -187,8 +186,8 @@ gives_up w c = then (give_up (client w c)) (λ a. moved (with_client w c a))
 
 -- the server's record is kept, and its answer sent: "10 for kinds 1 to 3"
 abbrev pub answers : Option Shown → World → ℕ → ℕ → Server → Result After
-answers none w s n a = moved (with_server w s a)
-answers (some x) w s n a = guard (room w) 10 (moved (send (with_server w s a) (answer s n x)))
+answers None w s n a = moved (with_server w s a)
+answers (Some x) w s n a = guard (room w) 10 (moved (send (with_server w s a) (answer s n x)))
 
 -- "Deliver: 5, no such message or an answer; 6 ...; 7, the server's rule does not apply; 10"
 unfoldable pub deliver : World → ℕ → ℕ → Result After

@@ -1,6 +1,6 @@
 -- The world: header, views, servers, clients and every message sent. Assumes nothing.
-use Rattle.std.specs.Prelude.{ℕ, zero, suc, ◌+◌, Bool, false, ◌&&◌, List, [], ◌∷◌, get_or, set, replicate, ltb, leb}
-use Rattle.protocol.specs.Types.{View, Server, Idle, Client, Settled, Administrator, Message}
+use Rattle.std.specs.Prelude.{ℕ, zero, suc, ◌+◌, Bool, false, ◌&&◌, List, [], ◌∷◌, get_or, set, replicate, ltb, leb, None}
+use Rattle.protocol.specs.Types.{View, Server, Idle, Client, Administrator, Message}
 use Rattle.protocol.specs.Tools.{if, count_to, all_to, within, holds, nth, replace, Result, done, guard}
 use Rattle.protocol.specs.Sizes.{clients, servers, messages, view_with, sized}
 use Rattle.protocol.specs.Entries.{empty}
@@ -112,7 +112,7 @@ unfoldable pub fresh_world : View → World
 fresh_world v =
     record {
       used = 0;
-      administrator = record { newest = record { 0 = 1 }; ending = Settled };
+      administrator = record { newest = record { 0 = 1 }; ending = None };
       view_list = v ∷ replicate 31 no_view;
       server_list = list_to (fresh_server v.members.0) servers;
       client_list = replicate clients no_client;

@@ -1,48 +1,73 @@
-// The refusals by their numbers in document 01; 0 means done.
-// "1, image or step of wrong length", a record or a buffer too
-pub const WRONG_LENGTH: u8 = 1;
+// The refusals, by the numbers that the documents give them. Done has none: its number is 0.
+ghost use Rattle.std.specs.Prelude.{◌≡◌};
+ghost use Rattle.protocol.specs.Refusals.{refusal_number, code};
 
-// "2, unreadable"
-pub const UNREADABLE: u8 = 2;
+// Why a call did nothing.
+#[derive(Clone, Copy, Debug, PartialEq, Eq)]
+pub enum Refusal {
+    // "1, image or step of wrong length", a record or a buffer too
+    WrongLength = 1,
 
-// "3, unknown kind, a field out of range or an unused field set", "3, record out of range"
-pub const UNFIT: u8 = 3;
+    // "2, unreadable"
+    Unreadable = 2,
 
-// "4, client not idle", "4, ending"
-pub const BUSY: u8 = 4;
+    // "3, unknown kind, a field out of range or an unused field set", "3, record out of range"
+    Unfit = 3,
 
-// "5, no such message or an answer", "5, not an answer", "5, message not of kind 1 to 3, or source neither 0 nor a WRITE"
-pub const NO_MESSAGE: u8 = 5;
+    // "4, client not idle", "4, ending"
+    Busy = 4,
 
-// "6, the server is faulty and the kind is 1 to 3", "6, faulty already", "6, server not faulty"
-pub const FAULT_STATE: u8 = 6;
+    // "5, no such message or an answer", "5, not an answer", "5, message not of kind 1 to 3, or source neither 0 nor a WRITE"
+    NoMessage = 5,
 
-// "7, the server's rule does not apply", "7, taken before, or its request is neither that of an open phase nor the END number", "7, nothing is being ended"
-pub const NOT_APPLICABLE: u8 = 7;
+    // "6, the server is faulty and the kind is 1 to 3", "6, faulty already", "6, server not faulty"
+    FaultState = 6,
 
-// "8, size rule broken", "or newest is 32"
-pub const WRONG_SIZE: u8 = 8;
+    // "7, the server's rule does not apply", "7, taken before, or its request is neither that of an open phase nor the END number", "7, nothing is being ended"
+    NotApplicable = 7,
 
-// "9, it lacks that key"
-pub const NO_KEY: u8 = 9;
+    // "8, size rule broken", "or newest is 32"
+    WrongSize = 8,
 
-// "10, all 1,023 message numbers used"
-pub const NO_NUMBER: u8 = 10;
+    // "9, it lacks that key"
+    NoKey = 9,
 
-// "11, the closing write would need a count over 4,294,967,295"
-pub const NO_COUNT: u8 = 11;
+    // "10, all 1,023 message numbers used"
+    NoNumber = 10,
 
-// "12, the client is idle"
-pub const IDLE: u8 = 12;
+    // "11, the closing write would need a count over 4,294,967,295"
+    NoCount = 11,
 
-// "13, no order exists"
-pub const NO_ORDER: u8 = 13;
+    // "12, the client is idle"
+    Idle = 12,
 
-// "14, malformed", of a log and of answers without a signature
-pub const MALFORMED: u8 = 14;
+    // "13, no order exists"
+    NoOrder = 13,
 
-// "15, the replay stops on no refusal"
-pub const NO_REFUSAL: u8 = 15;
+    // "14, malformed", of a log and of answers without a signature
+    Malformed = 14,
 
-// "16, no entry qualifies"
-pub const UNVOUCHED: u8 = 16;
+    // "15, the replay stops on no refusal"
+    NoRefusal = 15,
+
+    // "16, no entry qualifies"
+    Unvouched = 16,
+}
+
+impl Refusal {
+    pub fn number(self) -> u8
+        ensures { result ≡ refusal_number self }
+    {
+        self as u8
+    }
+}
+
+// The number of an answer that has no value: 0, or its refusal's.
+pub fn code(done: Result<(), Refusal>) -> u8
+    ensures { result ≡ code done }
+{
+    match done {
+        Ok(()) => 0,
+        Err(refusal) => refusal.number(),
+    }
+}

@@ -1,8 +1,8 @@
 -- "message 0 all zero" and "messages beyond used are zero", tested as bytes. `zero_bytes` is the test; `zero_record`: all bytes of a
 -- message's record are zero where its spare bytes are and the message that it spells is zero; `first_zero` and `beyond_zero` say it
 -- of message 0 and of all messages beyond those used. The functions of `beyond` and `messages_ok` rest on them. Assumes nothing.
-use Rattle.std.specs.Prelude.{◌≡◌, refl, Bool, true, not, ◌&&◌, length, take, get_or, replicate, eqb}
-use Rattle.std.proofs.Common.{sym, ap₂, ◌∙◌, add-one, take-append-drop, drop_of_length-le, drop-drop, take-suc}
+use Rattle.std.specs.Prelude.{◌≡◌, refl, Bool, true, not, ◌&&◌, length, take, replicate, eqb}
+use Rattle.std.proofs.Common.{sym, ap₂, ◌∙◌, add-one, take-append-drop, drop_of_length-le, drop-drop}
 use Rattle.std.proofs.Math.Path.{ap}
 use Rattle.std.proofs.Math.Bool.{and-true, and_assoc}
 use mathlib.Core.List.{List, [], ◌∷◌, ◌++◌}
@@ -10,6 +10,7 @@ use Prim.Native.Nat.{ℕ, zero, suc, ◌+◌, ◌-◌, ◌≤◌, ◌<◌}
 use native.Mathlib.Omega.{arith}
 use Rattle.std.proofs.Math.ListN.{drop}
 use Rattle.std.specs.Int.Bits.{bit_or, or_zero_l, or_add_and}
+use Rattle.std.specs.List.{fold}
 use Rattle.std.proofs.lemmas.Nat.{and_le_l, and_le_r}
 use borrow.Author.Tests.{eqb-true, eq-eqb, lt-leb, not-true}
 use Rattle.protocol.specs.declared.Message.{Message}
@@ -51,18 +52,14 @@ unfolding zero_bytes all
 zero_append [] b = refl
 zero_append (x ∷ a) b = ap (λ (t : Bool). eqb x 0 && t) (zero_append a b) ∙ sym (and_assoc (eqb x 0) (zero_bytes a) (zero_bytes b))
 
-pub joined_start : (b : List ℕ) → eqb 0 0 ≡ zero_bytes (take 0 b)
+joined : (b : List ℕ) (n : ℕ) → eqb (fold (λ a x. bit_or a x) n b) 0 ≡ eqb n 0 && zero_bytes b
 unfolding zero_bytes all
-joined_start b = refl
+joined [] n = sym (and-true (eqb n 0))
+joined (x ∷ b) n =
+    joined b (bit_or n x) ∙ ap (λ (t : Bool). t && zero_bytes b) (or_zero n x) ∙ and_assoc (eqb n 0) (eqb x 0) (zero_bytes b)
 
--- one byte more
-pub joined_more : (b : List ℕ) (i joined : ℕ) → i < length b → eqb joined 0 ≡ zero_bytes (take i b) → eqb (bit_or joined (get_or b i 0)) 0 ≡ zero_bytes (take (i + 1) b)
-unfolding zero_bytes all
-joined_more b i joined h e =
-    or_zero joined (get_or b i 0)
-    ∙ ap₂ (λ (s t : Bool). s && t) e (sym (and-true (eqb (get_or b i 0) 0)))
-    ∙ sym (zero_append (take i b) (get_or b i 0 ∷ []))
-    ∙ ap zero_bytes (sym (take-suc b i 0 h) ∙ ap (λ (n : ℕ). take n b) (sym (add-one i)))
+pub zero_joined : (b : List ℕ) → zero_bytes b ≡ eqb (fold (λ a x. bit_or a x) 0 b) 0
+zero_joined b = sym (joined b 0)
 
 -- ---- the record of a message that is zero
 

@@ -1,5 +1,5 @@
 -- Readable images: each is the image of exactly one world. Assumes nothing.
-use Rattle.std.specs.Prelude.{◌≡◌, refl, Bool, false, not, ◌&&◌, ◌||◌, ◌⊎◌, List, [], ◌∷◌, length, ltb, leb, eqb}
+use Rattle.std.specs.Prelude.{◌≡◌, refl, Bool, false, not, ◌&&◌, ◌||◌, ◌⊎◌, List, [], ◌∷◌, length, ltb, leb, eqb, None, Some}
 use Rattle.std.proofs.Common.{sym, ap, ◌∙◌, ⊎_elim, lt_of_lt_of_le, arith, pow_mono, eqb-true, eq-eqb, ltb-true}
 use Rattle.std.proofs.Math.Bool.{true}
 use Prim.Native.Nat.{ℕ, zero, suc, ◌≤◌, ◌<◌, ◌^◌}
@@ -9,8 +9,7 @@ use Rattle.protocol.specs.declared.Entry.{Entry}
 use Rattle.protocol.specs.declared.Phase.{Phase}
 use Rattle.protocol.specs.declared.Phase.TheVariants.{Idle, Reading, Writing}
 use Rattle.protocol.specs.declared.Client.{Client}
-use Rattle.protocol.specs.declared.Ending.{Ending}
-use Rattle.protocol.specs.declared.Ending.TheVariants.{Settled, EndSent}
+use Rattle.protocol.specs.Types.{Ending}
 use Rattle.protocol.specs.declared.Message.{Message}
 use Rattle.protocol.specs.Tools.{within, any, bit_of, both, join}
 use Rattle.protocol.specs.Sizes.{clients, views, messages, sized, size_rule, size}
@@ -103,8 +102,8 @@ sent_below w h n kind sender e =
     omega arith
 
 ending_below : (w : World) → w.used ≤ messages → (x : Ending) → ending_fits w x ≡ true → end_of x < 2 ^ 16
-ending_below w h Settled e = omega arith
-ending_below w h (EndSent r) e =
+ending_below w h None e = omega arith
+ending_below w h (Some r) e =
     let a = both (ltb (newest w) views) (is_sent w r.0 END 0 && eqb (message w r.0).view.0 (newest w)) e in
     sent_below w h r.0 END 0 (both (is_sent w r.0 END 0) (eqb (message w r.0).view.0 (newest w)) a.1).0
 

@@ -1,18 +1,14 @@
 -- Readable, tested record by record on the bytes. Assumes nothing.
-use Rattle.std.specs.Prelude.{◌≡◌, Bool, true, false, ◌&&◌, List, length, ltb, leb, eqb}
+use Rattle.std.specs.Prelude.{◌≡◌, Bool, true, false, ◌&&◌, List, length, leb, eqb, Option, Some, None}
 use Rattle.std.proofs.Common.{sym, ◌∙◌, arith}
 use Prim.Native.Nat.{ℕ, zero, suc, ◌≤◌}
 use borrow.Author.Tests.{eqb-true, eq-eqb, ne_eqb}
-use Rattle.protocol.specs.declared.MessageNumber.{MessageNumber}
-use Rattle.protocol.specs.declared.Ending.TheVariants.{EndSent}
-use Rattle.protocol.specs.declared.Administrator.{Administrator}
 use Rattle.protocol.specs.declared.Message.{Message}
-use Rattle.protocol.specs.Tools.{if, within, count_to, all_to, both, join, sum_to}
+use Rattle.protocol.specs.Tools.{if, count_to, all_to, both, join, sum_to}
 use Rattle.protocol.specs.Sizes.{clients, servers, views, messages}
-use Rattle.protocol.specs.Servers.{END}
 use Rattle.protocol.specs.Worlds.{World, message, present}
 use Rattle.protocol.specs.Readable.{view_rule, server_rule, message_rule, last_of, is_asked}
-use Rattle.protocol.specs.Readable.{is_sent, ending_fits, sent_fits, phase_fits, header_fits, last_view, view_fits, server_fits, client_range, client_fits, zero_message, message_fits, taken_answer, chain_fits}
+use Rattle.protocol.specs.Readable.{is_sent, sent_fits, phase_fits, header_fits, last_view, view_fits, server_fits, client_range, client_fits, zero_message, message_fits, taken_answer, chain_fits}
 use Rattle.codec.specs.Layout.{image_size, header_width}
 use Rattle.codec.specs.Lists.{part}
 use Rattle.codec.specs.Bytes.{Bytes}
@@ -71,15 +67,17 @@ unfolding header_ok
 open_header i s e =
     record { size = s; head = headed (decode i) (both (header_plain (part i 0 header_width)) (header_fits (decode i)) e).1 }
 
+-- message n, if it was sent; and if it is of that kind and sender besides
+abbrev pub sent : World → ℕ → Option Message
+sent w n = if (present w n) (Some (message w n)) None
+
+abbrev pub sent_as : World → ℕ → ℕ → ℕ → Option Message
+sent_as w n kind sender = if (is_sent w n kind sender) (Some (message w n)) None
+
 -- a message that was sent has a record
 pub present_used : (i : List ℕ) (n : ℕ) → present (decode i) n ≡ true → used_at i ≤ messages → n ≤ messages
 unfolding decode
 present_used i n e h = let p = present_in_lem (decode i) n e in omega arith
-
-pub sent_used : (i : List ℕ) (n kind sender : ℕ) → is_sent (decode i) n kind sender ≡ true → used_at i ≤ messages → n ≤ messages
-unfolding is_sent
-sent_used i n kind sender e h =
-    present_used i n (both (present (decode i) n) (eqb (message (decode i) n).kind kind && eqb (message (decode i) n).sender sender) e).0 h
 
 pub taken_used : (i : List ℕ) (r n : ℕ) → taken_answer (decode i) r n ≡ true → used_at i ≤ messages → n ≤ messages
 taken_used i r n e h = present_used i n (taken_parts (decode i) r n e).present h
@@ -107,18 +105,6 @@ view_rule_lem i t a b = rw (view_decode i t a b)
 pub server_rule_lem : (i : List ℕ) (s : ℕ) → 1 ≤ s → s ≤ servers → server_fits (decode i) s ≡ server_rule (administrator_at i).newest.0 (server_at i s)
 unfolding server_fits decode
 server_rule_lem i s a b = rw (server_decode i s a b)
-
--- the header's clauses by the records that were read
-pub header_rule : (i : List ℕ) (used : ℕ) (a : Administrator) → used ≡ used_at i → a ≡ administrator_at i
-    → header_fits (decode i) ≡ leb used messages && (within 1 views a.newest.0 && ending_fits (decode i) a.ending)
-unfolding header_fits decode
-header_rule i used a e f = rw (e, f)
-
-pub end_rule : (i : List ℕ) (a : Administrator) (n : MessageNumber) → a ≡ administrator_at i
-    → ending_fits (decode i) (EndSent n)
-    ≡ ltb a.newest.0 views && (is_sent (decode i) n.0 END 0 && eqb (message (decode i) n.0).view.0 a.newest.0)
-unfolding decode
-end_rule i a n f = rw f
 
 pub sent_rule : (i : List ℕ) (newest : ℕ) (m : Message) → newest ≡ (administrator_at i).newest.0
     → message_rule newest m (is_asked (decode i) m.request.0) ≡ sent_fits (decode i) m

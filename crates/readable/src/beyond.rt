@@ -1,21 +1,21 @@
 // The messages that are zero: message 0, and those beyond the messages used.
-ghost use Rattle.std.specs.Prelude.{◌≡◌, ◌+◌, ◌≤◌, length, drop};
+ghost use Rattle.std.specs.Prelude.{◌≡◌, ◌&&◌, ◌+◌, ◌≤◌, length, drop};
 ghost use Rattle.protocol.specs.Sizes.{messages};
+ghost use Rattle.protocol.specs.Tools.{all_to};
 ghost use Rattle.codec.specs.Layout.{image_size, message_place};
-ghost use Rattle.readable.specs.Scan.{first_ok};
+ghost use Rattle.codec.specs.Places.{used_at};
+ghost use Rattle.readable.specs.Scan.{first_ok, message_ok};
 ghost use Rattle.readable.specs.Beyond.{zero_bytes};
 
 use codec::layout::{MESSAGE, MESSAGES_AT};
+use codec::places::record;
 
 // Every byte is zero: all are joined and tested one time, which the compiler turns into vector code.
+#[tactic(auto, using(crate::specs::Beyond::zero_joined))]
 fn zero_bytes(b: &[u8]) -> bool
     ensures { result ≡ zero_bytes b.now }
 {
-    let mut joined = 0u8;
-    for i in 0..b.len() {
-        joined |= b[i];
-    }
-    joined == 0
+    b.iter().fold(0, |joined, x| joined | x) == 0
 }
 
 // "message 0 all zero"
@@ -23,14 +23,14 @@ pub fn first_zero(image: &[u8]) -> bool
     requires { length image.now ≡ image_size }
     ensures { result ≡ first_ok image.now }
 {
-    zero_bytes(&image[MESSAGES_AT..MESSAGES_AT + MESSAGE])
+    zero_bytes(record(image, MESSAGES_AT, MESSAGE, 0))
 }
 
-// "messages beyond used are zero"
+// "messages beyond used are zero": of the messages used of an image, it goes with the tests of those.
 pub fn beyond_zero(image: &[u8], used: u16) -> bool
     requires { (length image.now ≡ image_size) × (used ≤ messages) }
-    ensures { result ≡ zero_bytes (drop (message_place (used + 1)) image.now) }
+    ensures bytes { result ≡ zero_bytes (drop (message_place (used + 1)) image.now) }
+    ensures all { used ≡ used_at image.now → all_to (message_ok image.now) messages ≡ all_to (message_ok image.now) used && result }
 {
-    let at = MESSAGES_AT + MESSAGE * (used as usize + 1);
-    zero_bytes(&image[at..])
+    zero_bytes(&image[MESSAGES_AT + MESSAGE * (used as usize + 1)..])
 }

@@ -1,4 +1,5 @@
-// Whether an image is readable.
+// Whether an image is readable. Ranges are `1..n + 1`: over `1..=n` a chain asks in each turn whether the last number has come, and the test
+// takes 1.1 times as long.
 ghost use Rattle.std.specs.Prelude.{◌≡◌, ◌≤◌, length};
 ghost use Rattle.protocol.specs.Tools.{all_to};
 ghost use Rattle.protocol.specs.Readable.{last_of};
@@ -14,33 +15,27 @@ use super::sent::{client_fits, header_fits, sent_fits};
 use codec::layout::{
     CLIENT, CLIENTS_AT, HEADER, IMAGE, MESSAGE, MESSAGES_AT, SERVER, SERVERS_AT, VIEW, VIEWS_AT,
 };
-use codec::places::{load_administrator, load_message, load_server, load_used, load_view};
+use codec::places::{load_administrator, load_message, load_server, load_used, load_view, record};
 use codec::records::{client_plain, header_plain, message_plain, server_plain, view_plain};
 use key_holders::holders_ok;
 use protocol::limits::{CLIENTS, SERVERS, VIEWS};
-use protocol::{Administrator, Ending, MessageNumber, ServerNumber, ViewNumber};
+use protocol::{Administrator, MessageNumber, ServerNumber, ViewNumber};
 
+#[tactic(auto, unfolding(crate::specs::Scan::header_ok, codec::specs::Lists::part))]
 fn header_ok(image: &[u8]) -> bool
     requires { length image.now ≡ image_size }
     ensures { result ≡ header_ok image.now }
 {
-    if !header_plain(&image[0..HEADER]) {
-        return false;
-    }
-    header_fits(image)
+    header_plain(&image[0..HEADER]) && header_fits(image)
 }
 
+#[tactic(auto, using(crate::specs::Scan::view_rule_lem), unfolding(crate::specs::Scan::view_ok))]
 fn view_ok(image: &[u8], t: ViewNumber, last: ViewNumber) -> bool
     requires { (length image.now ≡ image_size) × (1 ≤ t.0) × (t.0 ≤ views) × (last.0 ≡ last_of (administrator_at image.now)) }
     ensures { result ≡ view_ok image.now t.0 }
 {
-    let n = t.0;
-    let at = VIEWS_AT + VIEW * (n as usize - 1);
-    if !view_plain(&image[at..at + VIEW]) {
-        return false;
-    }
-    let v = load_view(image, t);
-    records::view_fits(v, t, last)
+    view_plain(record(image, VIEWS_AT, VIEW, t.0 as usize - 1))
+        && records::view_fits(load_view(image, t), t, last)
 }
 
 // The last view that is not zero.
@@ -48,131 +43,104 @@ fn last_of(a: Administrator) -> ViewNumber
     requires { a.newest.0 ≤ views }
     ensures { result.0 ≡ last_of a }
 {
-    let newest = a.newest;
-    let ending = a.ending;
-    match ending {
-        Ending::Settled => newest,
-        Ending::EndSent(_) => ViewNumber(newest.0 + 1),
-    }
+    ViewNumber(a.newest.0 + a.ending.is_some() as u8)
 }
 
-fn views_ok(image: &[u8], a: Administrator) -> bool
-    requires { Open image.now × (a ≡ administrator_at image.now) }
-    ensures { result ≡ all_to (view_ok image.now) views }
-{
-    let last = last_of(a);
-    for k in 0..VIEWS {
-        if !view_ok(image, ViewNumber(k + 1), last) {
-            return false;
-        }
-    }
-    true
+// An image with a header that fits, and its administrator.
+#[derive(Clone, Copy)]
+struct Opened<'a> {
+    image: &'a [u8],
+    administrator: Administrator,
+    ghost open: { Open image.now × (administrator ≡ administrator_at image.now) },
 }
 
-fn server_ok(image: &[u8], s: ServerNumber, newest: ViewNumber) -> bool
-    requires { Open image.now × (1 ≤ s.0) × (s.0 ≤ servers) × (newest.0 ≡ (administrator_at image.now).newest.0) }
-    ensures { result ≡ server_ok image.now s.0 }
-{
-    let n = s.0;
-    let at = SERVERS_AT + SERVER * (n as usize - 1);
-    if !server_plain(&image[at..at + SERVER]) {
-        return false;
+impl Opened<'_> {
+    #[tactic(auto, using(crate::specs::Scan::open_high))]
+    fn views_ok(&self) -> bool
+        ensures { result ≡ all_to (view_ok self.now.image.now) views }
+    {
+        let last = last_of(self.administrator);
+        (1..VIEWS + 1).all(|t| view_ok(self.image, ViewNumber(t), last))
     }
-    let v = load_server(image, s);
-    records::server_fits(v, newest)
-}
 
-fn servers_ok(image: &[u8], newest: ViewNumber) -> bool
-    requires { Open image.now × (newest.0 ≡ (administrator_at image.now).newest.0) }
-    ensures { result ≡ all_to (server_ok image.now) servers }
-{
-    for k in 0..SERVERS {
-        if !server_ok(image, ServerNumber(k + 1), newest) {
-            return false;
-        }
+    #[tactic(auto, using(crate::specs::Scan::server_rule_lem), unfolding(crate::specs::Scan::server_ok))]
+    fn server_ok(&self, s: ServerNumber) -> bool
+        requires { (1 ≤ s.0) × (s.0 ≤ servers) }
+        ensures { result ≡ server_ok self.now.image.now s.0 }
+    {
+        server_plain(record(self.image, SERVERS_AT, SERVER, s.0 as usize - 1))
+            && records::server_fits(load_server(self.image, s), self.administrator.newest)
     }
-    true
-}
 
-fn client_ok(image: &[u8], c: u8) -> bool
-    requires { Open image.now × (1 ≤ c) × (c ≤ clients) }
-    ensures { result ≡ client_ok image.now c }
-{
-    let at = CLIENTS_AT + CLIENT * (c as usize - 1);
-    if !client_plain(&image[at..at + CLIENT]) {
-        return false;
+    fn servers_ok(&self) -> bool
+        ensures { result ≡ all_to (server_ok self.now.image.now) servers }
+    {
+        (1..SERVERS + 1).all(|s| self.server_ok(ServerNumber(s)))
     }
-    client_fits(image, c)
-}
 
-fn clients_ok(image: &[u8]) -> bool
-    requires { Open image.now }
-    ensures { result ≡ all_to (client_ok image.now) clients }
-{
-    for k in 0..CLIENTS {
-        if !client_ok(image, k + 1) {
-            return false;
-        }
+    #[tactic(auto, unfolding(crate::specs::Scan::client_ok))]
+    fn client_ok(&self, c: u8) -> bool
+        requires { (1 ≤ c) × (c ≤ clients) }
+        ensures { result ≡ client_ok self.now.image.now c }
+    {
+        client_plain(record(self.image, CLIENTS_AT, CLIENT, c as usize - 1))
+            && client_fits(self.image, c)
     }
-    true
-}
 
-// A message that was used.
-fn message_ok(image: &[u8], n: MessageNumber, newest: ViewNumber) -> bool
-    requires { Open image.now × (n.0 ≤ used_at image.now) × (newest.0 ≡ (administrator_at image.now).newest.0) }
-    ensures { result ≡ message_ok image.now n.0 }
-{
-    let k = n.0;
-    let at = MESSAGES_AT + MESSAGE * (k as usize);
-    if !message_plain(&image[at..at + MESSAGE]) {
-        return false;
+    fn clients_ok(&self) -> bool
+        ensures { result ≡ all_to (client_ok self.now.image.now) clients }
+    {
+        (1..CLIENTS + 1).all(|c| self.client_ok(c))
     }
-    let m = load_message(image, n);
-    sent_fits(image, m, newest)
-}
 
-fn messages_ok(image: &[u8], newest: ViewNumber) -> bool
-    requires { Open image.now × (newest.0 ≡ (administrator_at image.now).newest.0) }
-    ensures { result ≡ messages_ok image.now }
-{
-    if !first_zero(image) {
-        return false;
+    // A message that was used.
+    #[tactic(auto, using(crate::specs::Scan::open_used, codec::specs::Laws::message_decode, codec::specs::Laws::used_decode), unfolding(crate::specs::Scan::message_ok, protocol::specs::Readable::message_fits))]
+    fn message_ok(&self, n: MessageNumber) -> bool
+        requires { n.0 ≤ used_at self.now.image.now }
+        ensures { result ≡ message_ok self.now.image.now n.0 }
+    {
+        message_plain(record(self.image, MESSAGES_AT, MESSAGE, n.0 as usize))
+            && sent_fits(
+                self.image,
+                load_message(self.image, n),
+                self.administrator.newest,
+            )
     }
-    let used = load_used(image);
-    for k in 0..used {
-        if !message_ok(image, MessageNumber(k + 1), newest) {
-            return false;
-        }
+
+    #[tactic(auto, using(crate::specs::Scan::open_used))]
+    fn used_ok(&self, used: u16) -> bool
+        requires { used ≡ used_at self.now.image.now }
+        ensures { result ≡ all_to (message_ok self.now.image.now) used }
+    {
+        (1..used + 1).all(|n| self.message_ok(MessageNumber(n)))
     }
-    beyond_zero(image, used)
+
+    #[tactic(auto, using(crate::specs::Scan::open_used), unfolding(crate::specs::Scan::messages_ok))]
+    fn messages_ok(&self) -> bool
+        ensures { result ≡ messages_ok self.now.image.now }
+    {
+        let used = load_used(self.image);
+        first_zero(self.image) && beyond_zero(self.image, used) && self.used_ok(used)
+    }
 }
 
 // "An image is readable if ...": for every byte string of every length.
+#[tactic(auto, using(crate::specs::Scan::open_header, crate::specs::Scan::servers_served, crate::specs::Scan::readable_scan, crate::specs::Scan::readable_size), unfolding(crate::specs::Scan::scanned))]
 pub fn readable(image: &[u8]) -> bool
     ensures { result ≡ is_readable image.now }
 {
-    if image.len() != IMAGE {
+    if image.len() != IMAGE || !header_ok(image) {
         return false;
     }
-    if !header_ok(image) {
-        return false;
-    }
-    let a = load_administrator(image);
-    let newest = a.newest;
-    if !views_ok(image, a) {
-        return false;
-    }
-    if !servers_ok(image, newest) {
-        return false;
-    }
-    if !clients_ok(image) {
-        return false;
-    }
-    if !messages_ok(image, newest) {
-        return false;
-    }
-    if !chains_fit(image) {
-        return false;
-    }
-    holders_ok(image, newest)
+    let administrator = load_administrator(image);
+    let opened = Opened {
+        image,
+        administrator,
+    };
+    opened.views_ok()
+        && opened.servers_ok()
+        && opened.clients_ok()
+        && opened.messages_ok()
+        && chains_fit(image)
+        && holders_ok(image, administrator.newest)
 }

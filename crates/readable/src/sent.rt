@@ -1,151 +1,107 @@
 // The clauses of "readable" that name messages.
 ghost use Rattle.std.specs.Prelude.{◌≡◌, ◌≤◌, length};
+ghost use Rattle.protocol.specs.Kinds.{message_code};
 ghost use Rattle.protocol.specs.Sizes.{clients, messages};
-ghost use Rattle.protocol.specs.Worlds.{present as present_in};
-ghost use Rattle.protocol.specs.Readable.{is_asked, is_sent, ending_fits, header_fits, phase_fits, client_fits, sent_fits};
+ghost use Rattle.protocol.specs.Readable.{is_asked, ending_fits, header_fits, phase_fits, client_fits, sent_fits};
 ghost use Rattle.codec.specs.Layout.{image_size};
 ghost use Rattle.codec.specs.Places.{used_at, administrator_at};
 ghost use Rattle.codec.specs.Images.{decode};
-ghost use Rattle.readable.specs.Scan.{Open};
+ghost use Rattle.readable.specs.Scan.{Open, sent_as, sent as is_sent};
 
-use codec::places::{load_administrator, load_client, load_message, load_used};
-use protocol::kinds::{END, READ, WRITE};
+use codec::places::{load_administrator, load_client, load_message, load_used, present};
 use protocol::limits::{MESSAGES, VIEWS};
-use protocol::{Administrator, Client, Ending, Message, MessageNumber, Phase, ViewNumber};
+use protocol::{Administrator, Client, Message, MessageKind, MessageNumber, Phase, ViewNumber};
 use values::entries::same;
 
-// A message of that number was sent.
-pub fn present(image: &[u8], n: MessageNumber) -> bool
-    requires { length image.now ≡ image_size }
-    ensures { result ≡ present_in (decode image.now) n.0 }
+// Message n, if it was sent.
+#[tactic(auto, using(crate::specs::Scan::present_used, codec::specs::Laws::message_decode))]
+pub fn sent(image: &[u8], n: MessageNumber) -> Option<Message>
+    requires { (length image.now ≡ image_size) × (used_at image.now ≤ messages) }
+    ensures { result ≡ is_sent (decode image.now) n.0 }
 {
-    let used = load_used(image);
-    records::number_within(n, used)
+    if present(image, n) {
+        Some(load_message(image, n))
+    } else {
+        None
+    }
 }
 
-// Message n was sent, and is of that kind and sender.
-pub fn is_sent(image: &[u8], n: MessageNumber, kind: u8, sender: u8) -> bool
+// Message n, if it was sent and is of that kind and sender.
+#[tactic(auto, unfolding(protocol::specs::Readable::is_sent))]
+fn sent_as(image: &[u8], n: MessageNumber, kind: MessageKind, sender: u8) -> Option<Message>
     requires { (length image.now ≡ image_size) × (used_at image.now ≤ messages) }
-    ensures { result ≡ is_sent (decode image.now) n.0 kind sender }
+    ensures { result ≡ sent_as (decode image.now) n.0 (message_code kind) sender }
 {
-    if !present(image, n) {
-        return false;
+    match sent(image, n) {
+        Some(m) if m.is(kind) && m.sender == sender => Some(m),
+        _ => None,
     }
-    let m = load_message(image, n);
-    if m.kind != kind {
-        return false;
-    }
-    m.sender == sender
 }
 
 // "while ending, newest is below 32 and the END is that of newest"
-fn end_fits(image: &[u8], a: Administrator, n: MessageNumber) -> bool
-    requires { (length image.now ≡ image_size) × (used_at image.now ≤ messages) × (a ≡ administrator_at image.now) }
-    ensures { result ≡ ending_fits (decode image.now) (Ending.EndSent n) }
-{
-    let newest = a.newest;
-    if VIEWS <= newest.0 {
-        return false;
-    }
-    if !is_sent(image, n, END, 0) {
-        return false;
-    }
-    let m = load_message(image, n);
-    let view = m.view;
-    view.0 == newest.0
-}
-
+#[tactic(auto, using(codec::specs::Laws::administrator_decode))]
 fn ending_fits(image: &[u8], a: Administrator) -> bool
     requires { (length image.now ≡ image_size) × (used_at image.now ≤ messages) × (a ≡ administrator_at image.now) }
     ensures { result ≡ ending_fits (decode image.now) a.ending }
 {
-    let ending = a.ending;
-    match ending {
-        Ending::Settled => true,
-        Ending::EndSent(n) => end_fits(image, a, n),
-    }
+    let Some(n) = a.ending else {
+        return true;
+    };
+    a.newest.0 < VIEWS && sent_as(image, n, MessageKind::End, 0).is_some_and(|m| m.view == a.newest)
 }
 
+#[tactic(auto, using(codec::specs::Laws::administrator_decode, codec::specs::Laws::used_decode), unfolding(protocol::specs::Readable::header_fits))]
 pub fn header_fits(image: &[u8]) -> bool
     requires { length image.now ≡ image_size }
     ensures { result ≡ header_fits (decode image.now) }
 {
-    let used = load_used(image);
     let a = load_administrator(image);
-    let newest = a.newest;
-    if MESSAGES < used {
-        return false;
-    }
-    if !records::view_within(newest, ViewNumber(VIEWS)) {
-        return false;
-    }
-    ending_fits(image, a)
+    load_used(image) <= MESSAGES
+        && records::view_within(a.newest, ViewNumber(VIEWS))
+        && ending_fits(image, a)
 }
 
 // "an answer's request has kind 1 to 3"
+#[tactic(auto, using(crate::specs::Scan::open_used))]
 fn is_asked(image: &[u8], n: MessageNumber) -> bool
     requires { Open image.now }
     ensures { result ≡ is_asked (decode image.now) n.0 }
 {
-    if !present(image, n) {
-        return false;
-    }
-    let m = load_message(image, n);
-    if m.kind < READ {
-        return false;
-    }
-    m.kind <= END
+    sent(image, n).is_some_and(|m| m.is_request())
 }
 
 // A message that was sent.
+#[tactic(auto, using(crate::specs::Scan::sent_rule))]
 pub fn sent_fits(image: &[u8], m: Message, newest: ViewNumber) -> bool
     requires { Open image.now × (newest.0 ≡ (administrator_at image.now).newest.0) }
     ensures { result ≡ sent_fits (decode image.now) m }
 {
-    let request = m.request;
-    let asked = is_asked(image, request);
-    records::message_fits(m, newest, asked)
+    records::message_fits(m, newest, is_asked(image, m.request))
 }
 
-// "in phase 2 it is what is written"
-fn writing_fits(image: &[u8], c: u8, a: Client, n: MessageNumber) -> bool
-    requires { Open image.now }
-    ensures { result ≡ phase_fits (decode image.now) c a (Phase.Writing n) }
-{
-    let own = a.entry;
-    if !records::kind_fits(a.kind) {
-        return false;
-    }
-    if !is_sent(image, n, WRITE, c) {
-        return false;
-    }
-    let m = load_message(image, n);
-    let written = m.entry;
-    same(own, written)
-}
-
+#[tactic(auto, using(crate::specs::Scan::open_used))]
 fn phase_fits(image: &[u8], c: u8, a: Client) -> bool
     requires { Open image.now }
     ensures { result ≡ phase_fits (decode image.now) c a a.phase }
 {
-    let phase = a.phase;
-    match phase {
+    match a.phase {
         Phase::Idle => records::idle_fits(a),
         Phase::Reading(n) => {
-            let sent = is_sent(image, n, READ, c);
-            records::reading_fits(a, sent)
+            records::reading_fits(a, sent_as(image, n, MessageKind::Read, c).is_some())
         }
-        Phase::Writing(n) => writing_fits(image, c, a, n),
+        // "in phase 2 it is what is written"
+        Phase::Writing(n) => {
+            records::kind_fits(a.kind)
+                && sent_as(image, n, MessageKind::Write, c).is_some_and(|m| same(a.entry, m.entry))
+        }
     }
 }
 
+#[tactic(auto, using(crate::specs::Scan::client_rule_lem))]
 pub fn client_fits(image: &[u8], c: u8) -> bool
     requires { Open image.now × (1 ≤ c) × (c ≤ clients) }
     ensures { result ≡ client_fits (decode image.now) c }
 {
     let a = load_client(image, c);
-    if !records::client_range(a) {
-        return false;
-    }
-    phase_fits(image, c, a)
+    records::client_range(a) && phase_fits(image, c, a)
 }

@@ -1,13 +1,13 @@
 -- The ways out of `reduce` and `shorten`: `none_left` for 15 and `some_left` when done; `lent_wrong` for 1, `not_fresh` for 8, and
 -- `from_fresh` for what `reduce` did. Used by the proofs of shorten/src and by Promise.antt. Assumes nothing.
-use Prim.Native.Nat.{ℕ, zero, suc, ◌*◌, ◌-◌, ◌/◌, ◌%◌, ◌≤◌, ◌<◌}
+use Prim.Native.Nat.{ℕ, zero, suc, ◌*◌, ◌-◌, ◌/◌, ◌%◌, ◌<◌}
 use native.Mathlib.Omega.{arith}
-use Rattle.std.specs.Prelude.{Bool, true, false, not, ◌≡◌, eqb, leb}
+use Rattle.std.specs.Prelude.{true, false, ◌≡◌, eqb, leb, None, Some, Result as Outcome, Ok, Err}
 use Rattle.std.proofs.Math.Path.{refl, sym, ap, ap₂}
 use Rattle.std.proofs.Common.{subst, ◌∙◌, drop_of_length-le, take_all}
 use mathlib.Core.List.{List, ◌++◌, append-nil}
 use Rattle.std.proofs.Math.ListN.{length}
-use borrow.Author.Tests.{eq-eqb, ne_eqb, eqb-true, leb-true, not-true, not-false, lt-ltb, le-leb, lt-leb}
+use borrow.Author.Tests.{eqb-true, leb-true, lt-ltb}
 use Rattle.protocol.specs.declared.View.{View}
 use Rattle.protocol.specs.Tools.{refused, done, guard}
 use Rattle.protocol.specs.Sizes.{view_with}
@@ -20,12 +20,13 @@ use Rattle.codec.specs.Images.{encode, decode}
 use Rattle.image.specs.Fresh.{fresh_on}
 use Rattle.image.specs.Steps.{steps_in, steps_of, played}
 use Rattle.journal.specs.declared.Replayed.{Replayed as Answer}
-use Rattle.journal.specs.Replays.{Plays}
+use Rattle.journal.specs.Replays.{Plays, stopped_by}
 use Rattle.journal.specs.Rests.{length_steps}
-use Rattle.shorten.specs.declared.Shortened.TheVariants.{ShortenRefused, ShortenDone}
-use Rattle.shorten.specs.declared.Shortened.{Shortened}
+use Rattle.protocol.specs.declared.refusals.Refusal.{Refusal}
+use Rattle.protocol.specs.declared.refusals.Refusal.TheVariants.{WrongLength, NoRefusal}
+use Rattle.protocol.specs.Refusals.{refusal_number, refusal_some}
 use Rattle.shorten.specs.Passes.{passes}
-use Rattle.shorten.specs.Journals.{most_steps, filled, stops_with, short_journal, shortened, ended, lent_well, shorten_on}
+use Rattle.shorten.specs.Journals.{Shortening, most_steps, filled, stops_with, short_journal, shortened, ended, lent_well, shorten_on}
 use Rattle.shorten.specs.Buffers.{bytes_steps, Held, Leaves}
 use Rattle.shorten.specs.Lent.{Shortens, Begins, started, fresh_begins, fresh_refused, fresh_stays}
 use Rattle.shorten.specs.Trials.{begun_world}
@@ -56,28 +57,29 @@ pub copied_held : (s j s' : List ℕ) → length j % step_width ≡ 0 → length
 copied_held s j s' w h e = subst (λ (l : List ℕ). Held l (length j / step_width)) (sym (e ∙ put_whole s j h)) (whole_held j w)
 
 module _ (v : View) (b : Begins v) (i j s : List ℕ) (e : i ≡ encode (fresh_world v)) (r : Answer) (i' : List ℕ) (p : Plays r i' (played (replay (decode i) (steps_of j)))) where
-  refusal_is : r.refusal ≡ (replay (fresh_world v) (steps_of j)).refusal
+  refusal_is : stopped_by r.refusal ≡ (replay (fresh_world v) (steps_of j)).refusal
   refusal_is = p.refusal ∙ ap (λ (w : World). (replay w (steps_of j)).refusal) (begun_world v b i e)
 
   -- "15, the replay stops on no refusal"
-  pub none_left : (i'' : List ℕ) → r.refusal ≡ 0 → i'' ≡ encode (fresh_world v) → Shortens (ShortenRefused 15) i'' s (ended (fresh_world v) s (shortened (fresh_world v) (steps_of j)))
+  pub none_left : (i'' : List ℕ) → r.refusal ≡ None → i'' ≡ encode (fresh_world v) → Shortens (Err NoRefusal) i'' s (ended (fresh_world v) s (shortened (fresh_world v) (steps_of j)))
   unfolding shortened guard
-  none_left i'' z h = rw (sym refusal_is ∙ z) (record { answer = refl; image = h; shorter = refl })
+  none_left i'' z h = rw (sym refusal_is ∙ ap stopped_by z) (record { answer = refl; image = h; shorter = refl })
 
-  pub some_left : (k : ℕ) (i'' s' s'' : List ℕ) → (r.refusal ≡ 0 → ⊥) → length s ≡ length j → s' ≡ put s 0 j
-      → Leaves k s'' (length s') (passes (stops_with (fresh_world v) r.refusal) (length j / step_width) (steps_in (length j / step_width) s'))
-      → i'' ≡ encode (fresh_world v) → Shortens (ShortenDone k) i'' s'' (ended (fresh_world v) s (shortened (fresh_world v) (steps_of j)))
+  pub some_left : (k : ℕ) (i'' s' s'' : List ℕ) (y : Refusal) → r.refusal ≡ Some y → length s ≡ length j → s' ≡ put s 0 j
+      → Leaves k s'' (length s') (passes (stops_with (fresh_world v) (refusal_number y)) (length j / step_width) (steps_in (length j / step_width) s'))
+      → i'' ≡ encode (fresh_world v) → Shortens (Ok k) i'' s'' (ended (fresh_world v) s (shortened (fresh_world v) (steps_of j)))
   unfolding shortened short_journal steps_of guard
-  some_left k i'' s' s'' z same c d h =
+  some_left k i'' s' s'' y z same c d h =
+      let stop : refusal_number y ≡ (replay (fresh_world v) (steps_of j)).refusal = sym (ap stopped_by z) ∙ refusal_is in
       let n : ℕ = length j / step_width in
       let copied : s' ≡ j = c ∙ put_whole s j same in
       let long : length s' ≡ length s = ap (λ (l : List ℕ). length l) copied ∙ sym same in
       let count : n ≡ length (steps_in n j) = sym (length_steps n j) in
-      let left : passes (stops_with (fresh_world v) r.refusal) n (steps_in n s')
+      let left : passes (stops_with (fresh_world v) (refusal_number y)) n (steps_in n s')
       ≡ passes (stops_with (fresh_world v) (replay (fresh_world v) (steps_in n j)).refusal) (length (steps_in n j)) (steps_in n j) =
-      ap₂ (λ (x : ℕ) (l : List ℕ). passes (stops_with (fresh_world v) x) n (steps_in n l)) refusal_is copied
+      ap₂ (λ (x : ℕ) (l : List ℕ). passes (stops_with (fresh_world v) x) n (steps_in n l)) stop copied
       ∙ ap (λ (x : ℕ). passes (stops_with (fresh_world v) (replay (fresh_world v) (steps_in n j)).refusal) x (steps_in n j)) count in
-      rw (lt-ltb 0 (replay (fresh_world v) (steps_in n j)).refusal (positive (replay (fresh_world v) (steps_in n j)).refusal (λ y. z (refusal_is ∙ y))))
+      rw (lt-ltb 0 (replay (fresh_world v) (steps_in n j)).refusal (positive (replay (fresh_world v) (steps_in n j)).refusal (λ e. refusal_some y (sym (stop ∙ e)))))
       (record { answer = ap done (d.steps ∙ ap (λ (x : List (List ℕ)). length x) left); image = h; shorter = d.bytes ∙ ap₂ filled long left })
     where
       positive : (n : ℕ) → (n ≡ 0 → ⊥) → 0 < n
@@ -96,26 +98,9 @@ lent_well_lem i j s e =
       shorter = eqb-true (length s) (length j) c.1;
     }
 
-module _ (i j s : List ℕ) where
-  pub not_image : (length i ≡ image_size → ⊥) → false ≡ lent_well i j s
-  not_image h = rw (ne_eqb (length i) image_size h) refl
-
-  module _ (size : length i ≡ image_size) where
-    pub not_whole : (length j % step_width ≡ 0 → ⊥) → false ≡ lent_well i j s
-    not_whole h = rw (eq-eqb (length i) image_size size, ne_eqb (length j % step_width) 0 h) refl
-
-    pub too_many : length j % step_width ≡ 0 → most_steps < length j / step_width → false ≡ lent_well i j s
-    too_many w h = rw (eq-eqb (length i) image_size size, eq-eqb (length j % step_width) 0 w, lt-leb (length j / step_width) most_steps h) refl
-
-    pub lent_long : length j % step_width ≡ 0 → length j / step_width ≤ most_steps → eqb (length s) (length j) ≡ lent_well i j s
-    lent_long w h = rw (eq-eqb (length i) image_size size, eq-eqb (length j % step_width) 0 w, le-leb (length j / step_width) most_steps h) refl
-
-module _ (i j s : List ℕ) (b : Bool) (e : b ≡ lent_well i j s) (t : not b ≡ false) where
-  well : lent_well i j s ≡ true
-  well = sym e ∙ not-false b t
-
+module _ (i j s : List ℕ) (e : true ≡ lent_well i j s) where
   lent : Lent i j s
-  lent = lent_well_lem i j s well
+  lent = lent_well_lem i j s (sym e)
 
   pub lent_whole : length j % step_width ≡ 0
   lent_whole = lent.journal
@@ -123,30 +108,33 @@ module _ (i j s : List ℕ) (b : Bool) (e : b ≡ lent_well i j s) (t : not b �
   pub lent_same : length s ≡ length j
   lent_same = lent.shorter
 
-module _ (i : List ℕ) (bits f reads : ℕ) (j s : List ℕ) (b : Bool) (e : b ≡ lent_well i j s) where
-  pub lent_wrong : not b ≡ true → Shortens (ShortenRefused 1) i s (shorten_on i bits f reads j s)
+module _ (i : List ℕ) (bits f reads : ℕ) (j s : List ℕ) where
+  pub lent_wrong : false ≡ lent_well i j s → Shortens (Err WrongLength) i s (shorten_on i bits f reads j s)
   unfolding shorten_on guard
-  lent_wrong t = rw (sym e ∙ not-true b t) (record { answer = refl; image = refl; shorter = refl })
+  lent_wrong e = rw (← e) (record { answer = refl; image = refl; shorter = refl })
 
-  module _ (t : not b ≡ false) where
+  module _ (e : true ≡ lent_well i j s) where
     size : length i ≡ image_size
-    size = (lent i j s b e t).image
+    size = (lent i j s e).image
 
-    module _ (n : ℕ) (answer : n ≡ (fresh_on i bits f reads).refusal) where
-      pub not_fresh : (i' : List ℕ) → (n ≡ 0 → ⊥) → i' ≡ (fresh_on i bits f reads).image → Shortens (ShortenRefused n) i' s (shorten_on i bits f reads j s)
+    pub not_fresh : (y : Refusal) (i' : List ℕ) → refusal_number y ≡ (fresh_on i bits f reads).refusal → i' ≡ (fresh_on i bits f reads).image → Shortens (Err y) i' s (shorten_on i bits f reads j s)
+    unfolding shorten_on guard
+    not_fresh y i' k q =
+        let no : fresh bits f reads ≡ refused (refusal_number y) = fresh_refused i size bits f reads y k in
+        rw (← e, no) (record { answer = refl; image = q ∙ fresh_stays i size bits f reads (refusal_number y) no; shorter = refl })
+
+    module _ (answer : 0 ≡ (fresh_on i bits f reads).refusal) where
+      pub lent_begins : Begins (view_with bits f reads)
+      lent_begins = fresh_begins i size bits f reads answer
+
+      pub lent_fresh : (i' : List ℕ) → i' ≡ (fresh_on i bits f reads).image → i' ≡ encode (fresh_world (view_with bits f reads))
+      lent_fresh i' q = started i size (view_with bits f reads) i' lent_begins q
+
+      pub from_fresh : (r : Outcome ℕ Refusal) (i' s' : List ℕ)
+          → Shortens r i' s' (ended (fresh_world (view_with bits f reads)) s (shortened (fresh_world (view_with bits f reads)) (steps_of j))) → Shortens r i' s' (shorten_on i bits f reads j s)
       unfolding shorten_on guard
-      not_fresh i' h q =
-          let no : fresh bits f reads ≡ refused n = fresh_refused i size bits f reads n answer h in
-          rw (well i j s b e t, no) (record { answer = refl; image = q ∙ fresh_stays i size bits f reads n no; shorter = refl })
+      from_fresh r i' s' h = rw (← e, lent_begins.begins) h
 
-      module _ (z : n ≡ 0) where
-        pub lent_begins : Begins (view_with bits f reads)
-        lent_begins = fresh_begins i size bits f reads (sym z ∙ answer)
-
-        pub lent_fresh : (i' : List ℕ) → i' ≡ (fresh_on i bits f reads).image → i' ≡ encode (fresh_world (view_with bits f reads))
-        lent_fresh i' q = started i size (view_with bits f reads) i' lent_begins q
-
-        pub from_fresh : (r : Shortened) (i' s' : List ℕ)
-            → Shortens r i' s' (ended (fresh_world (view_with bits f reads)) s (shortened (fresh_world (view_with bits f reads)) (steps_of j))) → Shortens r i' s' (shorten_on i bits f reads j s)
-        unfolding shorten_on guard
-        from_fresh r i' s' h = rw (well i j s b e t, lent_begins.begins) h
+-- a refusal that is handed on
+pub passed : {i s : List ℕ} {p : Shortening} {y : Refusal} {r : Outcome ℕ Refusal} → (z : Refusal) × (r ≡ Err z) × (z ≡ y) → Shortens (Err y) i s p → Shortens r i s p
+passed (z, p, q) d = rw (p, q) d

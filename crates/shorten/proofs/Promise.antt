@@ -1,7 +1,7 @@
 -- What the caller finds in what was lent, for all inputs. `short_journal_lem`: when done, the image is the fresh world's and the buffer
 -- begins with a journal that is `Short`, of as many steps as are returned, and is zero after it; `refused_stays`: beside a refusal
 -- the buffer is as it was, and so is the image but for 15. Assumes nothing.
-use Rattle.std.specs.Prelude.{ℕ, ◌*◌, ◌-◌, ◌/◌, ◌≤◌, Bool, true, false, List, drop, ltb}
+use Rattle.std.specs.Prelude.{ℕ, ◌*◌, ◌-◌, ◌/◌, ◌≤◌, Bool, true, false, List, drop, ltb, Ok}
 use native.Mathlib.Omega.{arith}
 use Rattle.std.proofs.Math.Path.{◌≡◌, refl, ap, subst}
 use Rattle.std.proofs.Common.{sym, ◌∙◌}
@@ -17,7 +17,6 @@ use Rattle.shorten.specs.Minimal.{part_length}
 use Rattle.shorten.specs.Journals.{most_steps, Short, is_short, filled, short_journal, shortened, lent_well, ended, begun_from, shorten_on}
 use Rattle.shorten.specs.Buffers.{Wide, wide_part, wide_steps, bytes_of, bytes_length, filled_length, left_steps}
 use Rattle.shorten.specs.Lent.{Shortens}
-use Rattle.shorten.specs.declared.Shortened.TheVariants.{ShortenDone}
 use Rattle.shorten.specs.Ends.{Lent}
 use Rattle.shorten.proofs.Ends.{lent_well_lem}
 use Rattle.shorten.specs.Promise.{Given}
@@ -78,7 +77,7 @@ module _ (i : List ℕ) (bits f reads : ℕ) (j s : List ℕ) where
       first (done w) e b = second w e (shortened w (steps_of j)) refl b
 
   -- what is returned is at most 512
-  pub steps_few : (k : ℕ) (i' s' : List ℕ) → Shortens (ShortenDone k) i' s' (shorten_on i bits f reads j s) → k ≤ most_steps
+  pub steps_few : (k : ℕ) (i' s' : List ℕ) → Shortens (Ok k) i' s' (shorten_on i bits f reads j s) → k ≤ most_steps
   steps_few k i' s' h = (short_journal_lem k (sym h.answer)).most
 
   -- "15 is the one refusal that writes the image, and every other lent byte stays as it was"

@@ -1,12 +1,11 @@
 -- The journal buffer: steps in bytes, zero after them. `Held s n`: the buffer s holds n steps, which are `steps_in n s`, and is zero
 -- after them; `left_held` makes it, `removed_step` keeps it when a step is dropped. Used by Trials.antt, Ends.antt
 -- and Promise.antt. Assumes nothing.
-use Rattle.std.specs.Prelude.{ℕ, zero, suc, ◌+◌, ◌*◌, ◌-◌, ◌≤◌, ◌<◌, ◌≡◌, refl, List, [], ◌∷◌, ◌++◌, take, drop, get_or, set, replicate}
-use Rattle.std.proofs.Common.{add-one, arith, sym, ap, ap₂, ◌∙◌, append_assoc, append-nil, length-append, length-take, length-drop, drop_of_length-le, take_at, drop_at, take-add, take_all, get_or-drop}
+use Rattle.std.specs.Prelude.{ℕ, zero, suc, ◌+◌, ◌*◌, ◌-◌, ◌≤◌, ◌<◌, ◌≡◌, refl, List, [], ◌∷◌, ◌++◌, take, drop, replicate}
+use Rattle.std.proofs.Common.{arith, sym, ap, ap₂, ◌∙◌, append_assoc, append-nil, length-append, length-take, length-drop, drop_of_length-le, take_at, drop_at, take-add, take_all}
 use Rattle.std.proofs.Math.ListN.{length}
 use Rattle.std.proofs.lemmas.List.{length-replicate, replicate-append-replicate}
-use Rattle.std.proofs.Math.Seq.{take-append-add, drop-append-add, paste, paste-suc}
-use Rattle.std.proofs.lemmas.List.Edits.{drop-paste}
+use Rattle.std.proofs.Math.Seq.{take-append-add, drop-append-add, paste}
 use borrow.Rule.Slice.PartMut.{put_mid}
 use Rattle.protocol.specs.Runs.{step_width}
 use Rattle.codec.specs.Lists.{flat}
@@ -95,24 +94,7 @@ moved_down s at = take at s ++ (drop (at + step_width) s ++ drop (length s - ste
 unfoldable pub removed : List ℕ → ℕ → List ℕ
 removed s at = take at s ++ (drop (at + step_width) s ++ replicate step_width 0)
 
--- a byte moved: i bytes of those behind the step are at its place
-pub moved_more : (d : List ℕ) (at i : ℕ) (p : List ℕ) → p ≡ paste d at (drop (at + step_width) d) i → at + step_width + i < length d
-    → set p (at + i) (get_or p (at + step_width + i) 0) ≡ paste d at (drop (at + step_width) d) (i + 1)
-moved_more d at i p e h =
-    let s : List ℕ = drop (at + step_width) d in
-    let l = length-drop (at + step_width) d in
-    let q : at + step_width + i ≡ at + i + step_width = omega arith in
-    let ahead : get_or p (at + step_width + i) 0 ≡ get_or s i 0 =
-    ap₂ (λ (x : List ℕ) (k : ℕ). get_or x k 0) e q
-    ∙ sym (get_or-drop (at + i) (paste d at s i) step_width 0)
-    ∙ ap (λ (x : List ℕ). get_or x step_width 0) (drop-paste d at s i (omega arith) (omega arith))
-    ∙ get_or-drop (at + i) d step_width 0
-    ∙ ap (λ (k : ℕ). get_or d k 0) (sym q)
-    ∙ sym (get_or-drop (at + step_width) d i 0) in
-    ap₂ (λ (x : List ℕ) (y : ℕ). set x (at + i) y) e ahead
-    ∙ paste-suc d at s i 0 (omega arith) (omega arith)
-    ∙ ap (paste d at s) (sym (add-one i))
-
+-- all of them moved
 pub moved_all : (d : List ℕ) (at i : ℕ) → at + step_width ≤ length d → i ≡ length d - step_width - at → paste d at (drop (at + step_width) d) i ≡ moved_down d at
 unfolding moved_down
 moved_all d at i h e =

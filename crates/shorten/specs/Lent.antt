@@ -1,7 +1,9 @@
 -- What the functions of shorten/src are handed and hand back. `Begins`: a view that obeys the size rule; `started`, `fresh_begins`,
 -- `fresh_refused` and `fresh_stays`: what `fresh` did; `replay_stops` and `replay_on_lem`: the replay of two parts, one after the other.
 -- Used by Trials.antt and Ends.antt. Assumes nothing.
-use Rattle.std.specs.Prelude.{ℕ, suc, ◌≤◌, ◌<◌, Bool, List, [], ◌∷◌, ◌++◌, length}
+use Rattle.std.specs.Prelude.{ℕ, suc, ◌≤◌, ◌<◌, Bool, List, [], ◌∷◌, ◌++◌, length, Result as Answer}
+use Rattle.protocol.specs.declared.refusals.Refusal.{Refusal}
+use Rattle.protocol.specs.Refusals.{refusal_number, refusal_some, outcome as answered}
 use Rattle.std.proofs.Common.{arith, sym, ◌∙◌, eq-eqb}
 use Rattle.std.proofs.Math.Bool.{true, false}
 use Rattle.std.proofs.Math.Path.{◌≡◌, refl, ap}
@@ -14,18 +16,11 @@ use Rattle.protocol.specs.Runs.{step_bytes, Replayed, onward, replay}
 use Rattle.codec.specs.Layout.{image_size}
 use Rattle.codec.specs.Images.{encode}
 use Rattle.image.specs.Fresh.{outcome, fresh_on}
-use Rattle.shorten.specs.declared.Shortened.{Shortened}
-use Rattle.shorten.specs.declared.Shortened.TheVariants.{ShortenRefused, ShortenDone}
 use Rattle.shorten.specs.Journals.{Shortening}
 
--- the number and the value of each case of the answer
-abbrev pub shortens : Shortened → Result ℕ
-shortens (ShortenRefused n) = refused n
-shortens (ShortenDone k) = done k
-
 -- the function answered r and left the image i and the buffer s, as p
-pub record Shortens (r : Shortened) (i s : List ℕ) (p : Shortening) : Type 0 where
-  pub answer : shortens r ≡ p.answer
+pub record Shortens (r : Answer ℕ Refusal) (i s : List ℕ) (p : Shortening) : Type 0 where
+  pub answer : answered r ≡ p.answer
   pub image : i ≡ p.image
   pub shorter : s ≡ p.shorter
 
@@ -51,13 +46,13 @@ module _ (i : List ℕ) (size : length i ≡ image_size) where
       go true h = record { begins = rw h refl }
       go false h = let k : ◌≡◌ {A = ℕ} 0 8 = e ∙ rw (eq-eqb (length i) image_size size, h) refl in absurd (omega arith)
 
-  pub fresh_refused : (bits f reads n : ℕ) → n ≡ (fresh_on i bits f reads).refusal → (n ≡ 0 → ⊥) → fresh bits f reads ≡ refused n
+  pub fresh_refused : (bits f reads : ℕ) (y : Refusal) → refusal_number y ≡ (fresh_on i bits f reads).refusal → fresh bits f reads ≡ refused (refusal_number y)
   unfolding fresh_on guard
-  fresh_refused bits f reads n e h = go (fresh bits f reads) (e ∙ ap (λ (b : Bool). (outcome i (guard b 1 (fresh bits f reads))).refusal) (eq-eqb (length i) image_size size))
+  fresh_refused bits f reads y e = go (fresh bits f reads) (e ∙ ap (λ (b : Bool). (outcome i (guard b 1 (fresh bits f reads))).refusal) (eq-eqb (length i) image_size size))
     where
-      go : (x : Result World) → n ≡ (outcome i x).refusal → x ≡ refused n
+      go : (x : Result World) → refusal_number y ≡ (outcome i x).refusal → x ≡ refused (refusal_number y)
       go (refused m) k = ap refused (sym k)
-      go (done w) k = absurd (h k)
+      go (done w) k = absurd (refusal_some y (sym k))
 
   pub fresh_stays : (bits f reads n : ℕ) → fresh bits f reads ≡ refused n → (fresh_on i bits f reads).image ≡ i
   unfolding fresh_on guard

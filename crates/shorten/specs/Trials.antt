@@ -3,8 +3,12 @@
 -- `step_goes`: one step tried; `Sweeping` and `Passing`: what the two loops keep. Used by the proofs of shorten/src. Assumes nothing.
 use Prim.Native.Nat.{ℕ, zero, suc, ◌+◌, ◌*◌, ◌-◌, ◌/◌, ◌%◌, ◌≤◌, ◌<◌}
 use native.Mathlib.Omega.{arith}
-use Rattle.std.specs.Prelude.{Bool, true, false, ◌≡◌, refl, ltb}
+use Rattle.std.specs.Prelude.{Bool, true, false, ◌≡◌, refl, ltb, eqb, Option}
+use Rattle.protocol.specs.declared.refusals.Refusal.{Refusal}
+use Rattle.protocol.specs.Refusals.{refusal_number}
 use Rattle.std.proofs.Math.Path.{sym, ap, ap₂}
+use Rattle.std.proofs.lemmas.Bool.{eqb-false}
+use borrow.Author.Tests.{eqb-true}
 use Rattle.std.proofs.Common.{◌∙◌, take_at, drop_at, take-add, drop-drop, eq-eqb, ne_eqb, lt-ltb, le-ltb}
 use mathlib.Core.List.{List, [], ◌∷◌}
 use Rattle.std.proofs.Math.ListN.{length, take, drop, length-take, length-drop}
@@ -21,7 +25,7 @@ use Rattle.readable.specs.Readable.{world_decode}
 use Rattle.image.specs.Steps.{steps_in, steps_of, played}
 use Rattle.mail.specs.Images.{Legible}
 use Rattle.journal.specs.declared.Replayed.{Replayed as Answer}
-use Rattle.journal.specs.Replays.{Plays, spelled}
+use Rattle.journal.specs.Replays.{Plays, spelled, stopped_by}
 use Rattle.journal.specs.Rests.{replay_kept, length_steps, steps_count}
 use Rattle.shorten.specs.Passes.{without, dropped, sweep, one_pass, passes}
 use Rattle.shorten.specs.Minimal.{Part, part_length, without_length, dropped_part, sweep_part}
@@ -154,7 +158,7 @@ module _ (v : View) (b : Begins v) (i : List ℕ) (e : i ≡ encode (fresh_world
       first_count = p.steps ∙ ap (λ (x : Replayed). x.steps) first_is
 
       -- the first part stopped
-      pub trial_stops : r.steps < place → r.refusal ≡ (replay (fresh_world v) (without (steps_of j) place)).refusal
+      pub trial_stops : r.steps < place → stopped_by r.refusal ≡ (replay (fresh_world v) (without (steps_of j) place)).refusal
       unfolding without
       trial_stops h =
           p.refusal ∙ ap (λ (x : Replayed). x.refusal) first_is
@@ -163,7 +167,7 @@ module _ (v : View) (b : Begins v) (i : List ℕ) (e : i ≡ encode (fresh_world
       -- it did not, and the rest follows
       pub trial_ends : place ≤ r.steps → (r' : Answer) (i'' : List ℕ)
           → Plays r' i'' (played (replay (decode i') (steps_of (take (length j - (place * step_width + step_width)) (drop (place * step_width + step_width) j)))))
-          → r'.refusal ≡ (replay (fresh_world v) (without (steps_of j) place)).refusal
+          → stopped_by r'.refusal ≡ (replay (fresh_world v) (without (steps_of j) place)).refusal
       unfolding without
       trial_ends h r' i'' q =
           let there : decode i' ≡ (replay (fresh_world v) before).world =
@@ -174,20 +178,21 @@ module _ (v : View) (b : Begins v) (i : List ℕ) (e : i ≡ encode (fresh_world
 
 -- ---- one step tried
 
-module _ (w : World) (refusal : ℕ) (s : List ℕ) (n place : ℕ) (held : Held s n) (below : place < n) (m : ℕ) (tried : m ≡ (replay w (without (steps_of (take (n * step_width) s)) place)).refusal) where
-  tried_is : m ≡ (replay w (without (steps_in n s) place)).refusal
+module _ (w : World) (y : Refusal) (s : List ℕ) (n place : ℕ) (held : Held s n) (below : place < n) (o : Option Refusal)
+    (tried : stopped_by o ≡ (replay w (without (steps_of (take (n * step_width) s)) place)).refusal) where
+  tried_is : stopped_by o ≡ (replay w (without (steps_in n s) place)).refusal
   tried_is = tried ∙ ap (λ (bs : List (List ℕ)). (replay w (without bs place)).refusal) (steps_taken n s held.fits)
 
-  pub step_stays : (m ≡ refusal → ⊥) → Leaves n s (length s) (dropped (stops_with w refusal) (steps_in n s) place)
+  pub step_stays : false ≡ eqb (stopped_by o) (refusal_number y) → Leaves n s (length s) (dropped (stops_with w (refusal_number y)) (steps_in n s) place)
   unfolding dropped
-  step_stays h = rw (ne_eqb (replay w (without (steps_in n s) place)).refusal refusal (λ e. h (tried_is ∙ e))) (held_leaves s n held)
+  step_stays h = rw (ne_eqb (replay w (without (steps_in n s) place)).refusal (refusal_number y) (λ e. eqb-false _ _ (sym h) (tried_is ∙ e))) (held_leaves s n held)
 
-  pub step_goes : (s' : List ℕ) → m ≡ refusal → s' ≡ removed s (place * step_width) → Leaves (n - 1) s' (length s) (dropped (stops_with w refusal) (steps_in n s) place)
+  pub step_goes : (s' : List ℕ) → true ≡ eqb (stopped_by o) (refusal_number y) → s' ≡ removed s (place * step_width) → Leaves (n - 1) s' (length s) (dropped (stops_with w (refusal_number y)) (steps_in n s) place)
   unfolding dropped
   step_goes s' h e =
       let k = length_steps n s in
       let c = without_length (steps_in n s) place (omega arith) in
-      rw (eq-eqb (replay w (without (steps_in n s) place)).refusal refusal (sym tried_is ∙ h))
+      rw (eq-eqb (replay w (without (steps_in n s) place)).refusal (refusal_number y) (sym tried_is ∙ eqb-true _ _ (sym h)))
       (record {
         steps = omega arith;
         bytes =

@@ -1,23 +1,23 @@
 // The short journal: steps are dropped from the last to the first where the refusal remains, again until a pass drops nothing.
 // The current journal is kept in the lent buffer, and each replay begins on the lent image, made fresh again.
-ghost use Rattle.std.specs.Prelude.{◌+◌, ◌*◌, ◌/◌, ◌%◌, ◌≤◌, ◌<◌, ◌≡◌, length};
+ghost use Rattle.std.specs.Prelude.{◌+◌, ◌*◌, ◌/◌, ◌%◌, ◌≤◌, ◌<◌, ◌≡◌, length, eqb};
 ghost use Rattle.protocol.specs.Worlds.{fresh_world};
+ghost use Rattle.protocol.specs.Refusals.{refusal_number};
 ghost use Rattle.protocol.specs.Runs.{step_width, replay as replay_of};
 ghost use Rattle.codec.specs.Layout.{image_size};
 ghost use Rattle.codec.specs.Images.{encode};
 ghost use Rattle.image.specs.Steps.{steps_in, steps_of};
+ghost use Rattle.journal.specs.Replays.{stopped_by};
 ghost use Rattle.shorten.specs.Passes.{without as without_step, dropped, sweep, passes as passes_of};
 ghost use Rattle.shorten.specs.Journals.{stops_with, ended, shortened, lent_well, shorten_on};
 ghost use Rattle.shorten.specs.Buffers.{Held, Leaves, moved_down, removed};
 ghost use Rattle.shorten.specs.Lent.{Begins, Shortens};
 
-use super::Shortened;
 use codec::bytes::{clear, put_bytes};
 use codec::layout::{IMAGE, STEP};
 use image::fresh::fresh;
 use journal::replay::play;
-use protocol::refusals::{NO_REFUSAL, WRONG_LENGTH};
-use protocol::{ServerSet, View};
+use protocol::{Refusal, ServerSet, View};
 
 // "at most 512 steps"
 const MOST_STEPS: usize = 512;
@@ -27,16 +27,13 @@ fn start(image: &mut [u8], v: View)
     requires { (length image.old ≡ image_size) × Begins v }
     ensures { image.new ≡ encode (fresh_world v) }
 {
-    let members = v.members;
-    let f = v.f;
-    let r = v.r;
-    fresh(image, members.0, f, r);
+    let _ = fresh(image, v.members.0, v.f, v.r);
 }
 
-// The refusal of a journal's replay from the fresh world without the step at a place, or 0.
-fn refusal_without(image: &mut [u8], v: View, journal: &[u8], place: usize) -> u8
+// The refusal of a journal's replay from the fresh world without the step at a place, if it is refused.
+fn refusal_without(image: &mut [u8], v: View, journal: &[u8], place: usize) -> Option<Refusal>
     requires { (length image.old ≡ image_size) × Begins v × (length journal.now % step_width ≡ 0) × (place < length journal.now / step_width) }
-    ensures { (result ≡ (replay_of (fresh_world v) (without_step (steps_of journal.now) place)).refusal)
+    ensures { (stopped_by result ≡ (replay_of (fresh_world v) (without_step (steps_of journal.now) place)).refusal)
         × (length image.new ≡ image_size) }
 {
     start(image, v);
@@ -44,8 +41,7 @@ fn refusal_without(image: &mut [u8], v: View, journal: &[u8], place: usize) -> u
     if first.steps < place {
         return first.refusal;
     }
-    let rest = play(image, &journal[place * STEP + STEP..]);
-    rest.refusal
+    play(image, &journal[place * STEP + STEP..]).refusal
 }
 
 // Moves all bytes behind a step to its place.
@@ -53,9 +49,7 @@ fn move_down(shorter: &mut [u8], at: usize)
     requires { at + step_width ≤ length shorter.old }
     ensures { shorter.new ≡ moved_down shorter.old at }
 {
-    for i in 0..shorter.len() - STEP - at {
-        shorter[at + i] = shorter[at + STEP + i];
-    }
+    shorter.copy_within(at + STEP.., at);
 }
 
 // Drops the step that begins at a byte: "zero after the short journal".
@@ -68,6 +62,13 @@ fn remove(shorter: &mut [u8], at: usize)
     clear(&mut shorter[end..]);
 }
 
+// Whether a replay was stopped by that refusal.
+fn is_stop(stop: Option<Refusal>, refusal: Refusal) -> bool
+    ensures { result ≡ eqb (stopped_by stop) (refusal_number refusal) }
+{
+    stop == Some(refusal)
+}
+
 // "drop where the refusal remains": the step at a place of the first `steps`. The number of steps left.
 fn drop_step(
     image: &mut [u8],
@@ -75,14 +76,14 @@ fn drop_step(
     shorter: &mut [u8],
     steps: usize,
     place: usize,
-    refusal: u8,
+    refusal: Refusal,
 ) -> usize
     requires { (length image.old ≡ image_size) × Begins v × Held shorter.old steps × (place < steps) }
-    ensures { Leaves result shorter.new (length shorter.old) (dropped (stops_with (fresh_world v) refusal) (steps_in steps shorter.old) place)
+    ensures { Leaves result shorter.new (length shorter.old) (dropped (stops_with (fresh_world v) (refusal_number refusal)) (steps_in steps shorter.old) place)
         × (length image.new ≡ image_size) }
 {
-    let n = refusal_without(image, v, &shorter[..steps * STEP], place);
-    if n != refusal {
+    let stop = refusal_without(image, v, &shorter[..steps * STEP], place);
+    if !is_stop(stop, refusal) {
         return steps;
     }
     remove(shorter, place * STEP);
@@ -90,24 +91,22 @@ fn drop_step(
 }
 
 // "Go from last step to first": one pass. The number of steps left.
-fn one_pass(image: &mut [u8], v: View, shorter: &mut [u8], steps: usize, refusal: u8) -> usize
+fn one_pass(image: &mut [u8], v: View, shorter: &mut [u8], steps: usize, refusal: Refusal) -> usize
     requires { (length image.old ≡ image_size) × Begins v × Held shorter.old steps }
-    ensures { Leaves result shorter.new (length shorter.old) (sweep (stops_with (fresh_world v) refusal) steps (steps_in steps shorter.old))
+    ensures { Leaves result shorter.new (length shorter.old) (sweep (stops_with (fresh_world v) (refusal_number refusal)) steps (steps_in steps shorter.old))
         × (length image.new ≡ image_size) }
 {
     let mut left = steps;
-    let mut place = steps;
-    while 0 < place {
-        left = drop_step(image, v, shorter, left, place - 1, refusal);
-        place -= 1;
+    for place in (0..steps).rev() {
+        left = drop_step(image, v, shorter, left, place, refusal);
     }
     left
 }
 
 // "again until a pass drops nothing". The number of steps left.
-fn passes(image: &mut [u8], v: View, shorter: &mut [u8], steps: usize, refusal: u8) -> usize
+fn passes(image: &mut [u8], v: View, shorter: &mut [u8], steps: usize, refusal: Refusal) -> usize
     requires { (length image.old ≡ image_size) × Begins v × Held shorter.old steps }
-    ensures { Leaves result shorter.new (length shorter.old) (passes_of (stops_with (fresh_world v) refusal) steps (steps_in steps shorter.old))
+    ensures { Leaves result shorter.new (length shorter.old) (passes_of (stops_with (fresh_world v) (refusal_number refusal)) steps (steps_in steps shorter.old))
         × (length image.new ≡ image_size) }
 {
     let mut before = steps + 1;
@@ -120,39 +119,31 @@ fn passes(image: &mut [u8], v: View, shorter: &mut [u8], steps: usize, refusal: 
 }
 
 // From the image of the fresh world: "15, the replay stops on no refusal".
-fn reduce(image: &mut [u8], v: View, journal: &[u8], shorter: &mut [u8]) -> Shortened
+fn reduce(image: &mut [u8], v: View, journal: &[u8], shorter: &mut [u8]) -> Result<usize, Refusal>
     requires { (image.old ≡ encode (fresh_world v)) × Begins v × (length journal.now % step_width ≡ 0) × (length shorter.old ≡ length journal.now) }
     ensures { Shortens result image.new shorter.new (ended (fresh_world v) shorter.old (shortened (fresh_world v) (steps_of journal.now))) }
 {
-    let whole = play(image, journal);
-    let refusal = whole.refusal;
-    if refusal == 0 {
+    let Some(refusal) = play(image, journal).refusal else {
         start(image, v);
-        return Shortened::ShortenRefused(NO_REFUSAL);
-    }
+        return Err(Refusal::NoRefusal);
+    };
     put_bytes(shorter, 0, journal);
     let steps = passes(image, v, shorter, journal.len() / STEP, refusal);
     start(image, v);
-    Shortened::ShortenDone(steps)
+    Ok(steps)
 }
 
 // "1, over 512 steps or a buffer of wrong length"
 fn lent_well(image: &[u8], journal: &[u8], shorter: &[u8]) -> bool
     ensures { result ≡ lent_well image.now journal.now shorter.now }
 {
-    if image.len() != IMAGE {
-        return false;
-    }
-    if journal.len() % STEP != 0 {
-        return false;
-    }
-    if MOST_STEPS < journal.len() / STEP {
-        return false;
-    }
-    shorter.len() == journal.len()
+    image.len() == IMAGE
+        && journal.len() % STEP == 0
+        && journal.len() / STEP <= MOST_STEPS
+        && shorter.len() == journal.len()
 }
 
-// "The short journal behind a refusal" from a fresh world: for every image, journal and buffer.
+// "The short journal behind a refusal" from a fresh world: the number of its steps, for every image, journal and buffer.
 pub fn shorten(
     image: &mut [u8],
     members: u32,
@@ -160,20 +151,17 @@ pub fn shorten(
     r: u8,
     journal: &[u8],
     shorter: &mut [u8],
-) -> Shortened
+) -> Result<usize, Refusal>
     ensures { Shortens result image.new shorter.new (shorten_on image.old members f r journal.now shorter.old) }
 {
     if !lent_well(image, journal, shorter) {
-        return Shortened::ShortenRefused(WRONG_LENGTH);
+        return Err(Refusal::WrongLength);
     }
-    let n = fresh(image, members, f, r);
-    if n != 0 {
-        return Shortened::ShortenRefused(n);
-    }
+    fresh(image, members, f, r)?;
     let v = View {
         members: ServerSet(members),
-        f: f,
-        r: r,
+        f,
+        r,
     };
     reduce(image, v, journal, shorter)
 }

@@ -1,11 +1,10 @@
 -- The calls of single machines on lent bytes. Assumes nothing.
-use Rattle.std.specs.Prelude.{ℕ, ◌+◌, Bool, true, false, ◌≡◌, List, length, get_or, eqb}
-use Rattle.std.proofs.Math.Option.{Option, none, some}
+use Rattle.std.specs.Prelude.{ℕ, ◌+◌, Bool, true, false, ◌≡◌, List, length, get_or, eqb, Option, None, Some}
 use Rattle.std.proofs.Common.{sym, ◌∙◌, eqb-true}
 use Rattle.protocol.specs.declared.Administrator.{Administrator}
 use Rattle.protocol.specs.declared.Shown.{Shown}
 use Rattle.protocol.specs.Tools.{bit, Result, refused, done, guard, passed}
-use Rattle.protocol.specs.Servers.{Reply}
+use Rattle.protocol.specs.declared.Reply.{Reply}
 use Rattle.protocol.specs.Clients.{Close}
 use Rattle.protocol.specs.Runs.{u16_width, u16_at}
 use Rattle.codec.specs.Layout.{entry_width, view_width, server_width, client_width, message_width, administrator_width}
@@ -76,8 +75,8 @@ administrator_call a b =
 -- ---- what a call answers, and the record that it leaves: "A refusal changes no byte"
 
 abbrev pub is_some : Option Shown → Bool
-is_some none = false
-is_some (some x) = true
+is_some None = false
+is_some (Some x) = true
 
 -- 1 if the server answers, with the view and entry of its record
 abbrev pub replied : Result Reply → Result ℕ

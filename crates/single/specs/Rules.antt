@@ -1,6 +1,5 @@
 -- The rules of single machines, chosen by number. Assumes nothing.
-use Rattle.std.specs.Prelude.{ℕ, Bool, false, ◌&&◌, leb, eqb}
-use Rattle.std.proofs.Math.Option.{none}
+use Rattle.std.specs.Prelude.{ℕ, Bool, false, ◌&&◌, leb, eqb, None}
 use Rattle.protocol.specs.declared.Stamp.{Stamp}
 use Rattle.protocol.specs.declared.Entry.{Entry}
 use Rattle.protocol.specs.declared.View.{View}
@@ -9,7 +8,7 @@ use Rattle.protocol.specs.declared.Client.{Client}
 use Rattle.protocol.specs.declared.Administrator.{Administrator}
 use Rattle.protocol.specs.declared.Message.{Message}
 use Rattle.protocol.specs.Tools.{bit, if, Result, refused, done, guard, number_of}
-use Rattle.protocol.specs.Servers.{Reply}
+use Rattle.protocol.specs.declared.Reply.{Reply}
 use Rattle.protocol.specs.Entries.{empty, same}
 use Rattle.protocol.specs.Clients.{Close}
 use Rattle.protocol.specs.Steps.{write_step, read_step, deliver_step, take_step, false_step, view_step, give_up_step, restart_step}
@@ -17,7 +16,7 @@ use Rattle.checked.specs.Rules.{serve_rule, false_answer_rule, write_rule, read_
 
 -- the record stays as it is, and nothing is answered by the rule itself
 abbrev pub stays : Server → ℕ → Result Reply
-stays a n = if (eqb n 0) (done (record { server = a; answer = none })) (refused n)
+stays a n = if (eqb n 0) (done (record { server = a; answer = None })) (refused n)
 
 -- 3 deliver: the flag says whether the server is in the message's view; 6 false answer with the view t: the flag says whether
 -- what it shows is the empty entry or that of a WRITE sent

@@ -13,11 +13,11 @@ pub fn read_full<R: Read>(input: &mut R, buffer: &mut [u8]) -> usize
     ensures bytes { Consumes (R.remaining input.old) (R.remaining input.new) (take result buffer.new) }
 {
     let mut done = 0usize;
+    // Not `read_exact`, which says nothing of how much was read where the input ends; a turn goes on by what a read took.
     while done < buffer.len() {
         match input.read(&mut buffer[done..]) {
-            Ok(0) => return done,
+            Ok(0) | Err(_) => return done,
             Ok(n) => done += n,
-            Err(_) => return done,
         }
     }
     done
@@ -29,11 +29,11 @@ pub fn write_all<W: Write>(output: &mut W, bytes: &[u8]) -> bool
     ensures part { (n : ℕ) × (n ≤ length bytes.now) × Appends (W.contents output.old) (W.contents output.new) (take n bytes.now) }
 {
     let mut done = 0usize;
+    // Not std's `write_all`, which says little of what stands there after an error; a turn goes on by what a write took.
     while done < bytes.len() {
         match output.write(&bytes[done..]) {
-            Ok(0) => return false,
+            Ok(0) | Err(_) => return false,
             Ok(n) => done += n,
-            Err(_) => return false,
         }
     }
     true

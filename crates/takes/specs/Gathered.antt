@@ -2,10 +2,9 @@
 -- `Gathers` says which tally a number stands for; `gathers_with` adds an answer; `gathers_zero`, `gathers_none`, `gathers_other` and `gathers_on` are the
 -- ways out of the walk; `gathers_taken` says that the number of a whole chain opens into what closes a phase or leaves it open. The
 -- functions of `tally` and `taken_with` rest on them. Assumes nothing.
-use Rattle.std.specs.Prelude.{ℕ, ◌+◌, ◌*◌, ◌/◌, ◌%◌, ◌^◌, ◌-◌, ◌≤◌, ◌<◌, Bool, ◌≡◌, refl, List, eqb}
+use Rattle.std.specs.Prelude.{ℕ, ◌+◌, ◌*◌, ◌/◌, ◌%◌, ◌^◌, ◌-◌, ◌≤◌, ◌<◌, Bool, ◌≡◌, refl, List, eqb, Option}
 use Rattle.std.proofs.Common.{arith, subst, ◌∙◌, eq-eqb, ne_eqb}
 use Rattle.std.proofs.Math.Bool.{true, false}
-use Rattle.std.proofs.Math.Option.{Option}
 use Rattle.std.proofs.Math.Path.{sym, ap}
 use Rattle.std.specs.Int.Bits.{bit_or}
 use Rattle.values.specs.declared.tally.Tally.{Tally}

@@ -1,12 +1,12 @@
 -- Taking an answer on the image of a readable world. Assumes nothing.
-use Rattle.std.specs.Prelude.{ℕ, zero, suc, ◌+◌, ◌-◌, ◌≤◌, ◌<◌, Bool, false, not, ◌&&◌, ◌≡◌, refl}
+use Rattle.std.specs.Prelude.{ℕ, zero, suc, ◌+◌, ◌-◌, ◌≤◌, ◌<◌, Bool, false, ◌&&◌, ◌≡◌, refl, Option, None, Some, Result as Outcome, Ok, Err}
 use Rattle.std.proofs.Common.{arith, sym, ◌∙◌}
 use Rattle.std.proofs.Math.Bool.{true}
-use Rattle.std.proofs.Math.Option.{Option, none, some}
 use Rattle.std.proofs.Math.Path.{ap, subst}
 use mathlib.Core.List.{List, [], ◌∷◌}
 use Rattle.std.proofs.Math.Dec.{eqb}
-use borrow.Author.Tests.{ltb-true, eqb-true, eq-eqb, ne_eqb, le-leb, not-false}
+use borrow.Author.Tests.{ltb-true, eqb-true, eq-eqb, ne_eqb, le-leb}
+use Rattle.std.proofs.lemmas.Bool.{eqb-false}
 use Rattle.values.specs.declared.tally.Tally.{Tally}
 use Rattle.administrator_rules.specs.Advances.{advance_in, advance_in_lem}
 use Rattle.values.specs.Tallies.{add_answer, tally_from, tally_of, first_answer, closes_at, choice, tally_closes}
@@ -17,17 +17,14 @@ use Rattle.protocol.specs.declared.Message.{Message}
 use Rattle.protocol.specs.declared.MessageNumber.{MessageNumber}
 use Rattle.protocol.specs.declared.Client.{Client}
 use Rattle.protocol.specs.declared.Administrator.{Administrator}
-use Rattle.protocol.specs.declared.Taken.{Taken}
-use Rattle.protocol.specs.declared.Taken.TheVariants.{Open, Closed}
-use Rattle.protocol.specs.declared.Called.{Called}
-use Rattle.protocol.specs.declared.Called.TheVariants.{CallRefused, Calling}
-use Rattle.protocol.specs.declared.Ending.{Ending}
-use Rattle.protocol.specs.declared.Ending.TheVariants.{Settled, EndSent}
+use Rattle.protocol.specs.declared.refusals.Refusal.{Refusal}
+use Rattle.protocol.specs.Refusals.{outcome, refusal_number}
+use Rattle.protocol.specs.Types.{Ending}
 use Rattle.protocol.specs.Tools.{if, within, all, Result, refused, done, guard}
 use Rattle.protocol.specs.Sizes.{clients, views, messages, write_size, one_exchange}
 use Rattle.protocol.specs.Entries.{chosen}
 use Rattle.protocol.specs.Servers.{READ, WRITE, END, START, ANSWER}
-use Rattle.protocol.specs.Clients.{number, request_of, close_size, Close, close, end_of, advance, taken, called}
+use Rattle.protocol.specs.Clients.{number, request_of, close_size, Close, close, end_of, advance}
 use Rattle.protocol.specs.Worlds.{World, view, client, message, newest, present, room, with_client, with_administrator, send, next_number}
 use Rattle.protocol.specs.Chains.{follow, chain, enough, shown}
 use Rattle.protocol.specs.Steps.{After, moved, request, link, open?, taken_with, at_once, closes, starts, takes, take}
@@ -40,11 +37,11 @@ use Rattle.preservation.proofs.Chained.{chained, all_map}
 use Rattle.preservation.specs.Links.{Untaken}
 use Rattle.preservation.proofs.Links.{taken_is}
 use Rattle.preservation.proofs.Updates.{mail_sent, request_of_lem, present_is}
-use Rattle.codec.specs.Places.{put_administrator, used_at, view_at, client_at, put_client, message_at, put_message}
+use Rattle.codec.specs.Places.{administrator_at, put_administrator, used_at, view_at, client_at, put_client, message_at, put_message}
 use Rattle.codec.specs.Images.{encode, decode}
 use Rattle.codec.specs.Laws.{Full, decode_full, full_message}
-use Rattle.mail.specs.Images.{Legible, put_sent}
-use Rattle.mail.specs.Stored.{Image, image_of, whole, used_is, view_is, client_is, message_is, room_none, room_some}
+use Rattle.mail.specs.Images.{Legible, Does, put_sent, number_left}
+use Rattle.mail.specs.Stored.{Image, image_of, whole, used_is, administrator_is, view_is, client_is, message_is, room_none, room_some, refuses, does, numbered, unnumbered}
 use Rattle.mail.specs.Puts.{message_put, client_put, administrator_put, sent_put}
 
 -- ---- "From a request the links are followed until zero"
@@ -197,18 +194,18 @@ module _ {l : List ℕ} {k : ℕ} (h : Takable l k) where
       below f a = omega arith
 
   -- "while ending, newest is below 32"
-  pub asked_end : (message w r).kind ≡ END → open? w r ≡ true → newest w < views
+  pub asked_end : eqb (message w r).kind END ≡ true → open? w r ≡ true → newest w < views
   unfolding open?
-  asked_end e o = go w.administrator.ending (whole h.legible).ending (eqb-true _ _ (rw (eq-eqb _ _ e) at o))
+  asked_end e o = go w.administrator.ending (whole h.legible).ending (eqb-true _ _ (rw e at o))
     where
       go : (x : Ending) → ending_fits w x ≡ true → end_of x ≡ r → newest w < views
-      go Settled f p = absurd (omega (arith, h.untaken.from))
-      go (EndSent q) f p = ltb-true _ _ (and_left _ _ f)
+      go None f p = absurd (omega (arith, h.untaken.from))
+      go (Some q) f p = ltb-true _ _ (and_left _ _ f)
 
 -- "A phase closes when, by the answer just taken, the answers taken with that answer's view t come from at least q(t) different servers."
 abbrev pub closes_with : World → ℕ → ℕ → Option Choice
 closes_with w k size =
-    if (enough w (message w k).view.0 (taken_with w k) size) (some (choice w (message w k).view.0 (taken_with w k))) none
+    if (enough w (message w k).view.0 (taken_with w k) size) (Some (choice w (message w k).view.0 (taken_with w k))) None
 
 -- ---- linking
 
@@ -231,36 +228,37 @@ linked_whole {l} {l'} {k} h e = record { is = e; full = link_full l k }
 pub record Asked (l : List ℕ) (r : ℕ) (q : Message) : Type 0 where
   pub legible : Legible l
   pub is : q ≡ message (decode l) r
-  pub client : (q.kind ≡ END → ⊥) → (1 ≤ q.sender) × (q.sender ≤ clients)
+  pub client : false ≡ eqb q.kind END → (1 ≤ q.sender) × (q.sender ≤ clients)
 
 pub asked : {l : List ℕ} {k : ℕ} → Takable l k → (q : Message) → q ≡ message (decode l) (message (decode l) k).request.0 → Asked l (message (decode l) k).request.0 q
-asked {l} {k} h q e = record { legible = h.legible; is = e; client = λ n. rw e (asked_client h (λ p. n (ap (λ (m : Message). m.kind) e ∙ p))) }
+asked {l} {k} h q e = record { legible = h.legible; is = e; client = λ n. rw e (asked_client h (eqb-false _ _ (ap (λ (m : Message). eqb m.kind END) (sym e) ∙ sym n))) }
 
 module _ {l : List ℕ} {r : ℕ} {q : Message} (h : Asked l r q) where
-  pub open_end : q.kind ≡ END → open? (decode l) r ≡ eqb (end_of (decode l).administrator.ending) r
-  unfolding open?
-  open_end e = rw (eq-eqb (message (decode l) r).kind END (ap (λ (m : Message). m.kind) (sym h.is) ∙ e))
+  kind_is : (b : Bool) → b ≡ eqb q.kind END → eqb (message (decode l) r).kind END ≡ b
+  kind_is b e = ap (λ (m : Message). eqb m.kind END) (sym h.is) ∙ sym e
 
-  pub open_client : (q.kind ≡ END → ⊥) → open? (decode l) r ≡ eqb (request_of (client (decode l) q.sender).phase) r
+  pub open_end : true ≡ eqb q.kind END → open? (decode l) r ≡ eqb (end_of (decode l).administrator.ending) r
   unfolding open?
-  open_client n =
-      rw (ne_eqb (message (decode l) r).kind END (λ p. n (ap (λ (m : Message). m.kind) h.is ∙ p)))
-      (ap (λ (m : Message). eqb (request_of (client (decode l) m.sender).phase) r) (sym h.is))
+  open_end e = rw (kind_is true e)
+
+  pub open_client : false ≡ eqb q.kind END → open? (decode l) r ≡ eqb (request_of (client (decode l) q.sender).phase) r
+  unfolding open?
+  open_client n = rw (kind_is false n) (ap (λ (m : Message). eqb (request_of (client (decode l) m.sender).phase) r) (sym h.is))
 
 -- ---- "the answer either closes its phase or leaves it open"
 
-module _ (b : Bool) (x : Taken) (e : Choice) (p : taken x ≡ if b (some e) none) where
-  pub stays_open : x ≡ Open → b ≡ false
-  stays_open q = go b (sym (ap taken q) ∙ p)
+module _ (b : Bool) (x : Option Choice) (e : Choice) (p : x ≡ if b (Some e) None) where
+  pub stays_open : x ≡ None → b ≡ false
+  stays_open q = go b (sym q ∙ p)
     where
-      go : (b : Bool) → none ≡ if b (some e) none → b ≡ false
+      go : (b : Bool) → None ≡ if b (Some e) None → b ≡ false
       go true z = cc
       go false z = refl
 
-  pub is_closed : (a : Choice) → x ≡ Closed a → (b ≡ true) × (a ≡ e)
-  is_closed a q = go b (sym (ap taken q) ∙ p)
+  pub is_closed : (a : Choice) → x ≡ Some a → (b ≡ true) × (a ≡ e)
+  is_closed a q = go b (sym q ∙ p)
     where
-      go : (b : Bool) → some a ≡ if b (some e) none → (b ≡ true) × (a ≡ e)
+      go : (b : Bool) → Some a ≡ if b (Some e) None → (b ≡ true) × (a ≡ e)
       go true z = (refl, cc)
       go false z = (cc, cc)
 
@@ -281,22 +279,22 @@ module _ (w : World) (k : ℕ) where
   unfolding end_taken
   end_elsewhere n = rw (ne_eqb _ _ n)
 
-  module _ (x : Taken) (size : ℕ) (p : taken x ≡ closes_with w k size) where
-    pub end_open : (message w k).view.0 ≡ newest w → size ≡ write_size (view w (message w k).view.0) → x ≡ Open → end_taken w k ≡ moved (link w k)
+  module _ (x : Option Choice) (size : ℕ) (p : x ≡ closes_with w k size) where
+    pub end_open : (message w k).view.0 ≡ newest w → size ≡ write_size (view w (message w k).view.0) → x ≡ None → end_taken w k ≡ moved (link w k)
     unfolding end_taken
     end_open t s o = rw (eq-eqb _ _ t, ← s, stays_open (enough w (message w k).view.0 (taken_with w k) size) x (choice w (message w k).view.0 (taken_with w k)) p o)
 
-    pub end_closed : (message w k).view.0 ≡ newest w → size ≡ write_size (view w (message w k).view.0) → (e : Choice) → x ≡ Closed e → end_taken w k ≡ starts w k e.entry
+    pub end_closed : (message w k).view.0 ≡ newest w → size ≡ write_size (view w (message w k).view.0) → (e : Choice) → x ≡ Some e → end_taken w k ≡ starts w k e.entry
     unfolding end_taken
     end_closed t s e o =
         let (b, c) = is_closed (enough w (message w k).view.0 (taken_with w k) size) x (choice w (message w k).view.0 (taken_with w k)) p e o in
         rw (eq-eqb _ _ t, ← s, b, c)
 
-    pub client_open : (c : ℕ) → size ≡ close_size (client w c).phase (view w (message w k).view.0) → x ≡ Open → client_taken w k c ≡ moved (link w k)
+    pub client_open : (c : ℕ) → size ≡ close_size (client w c).phase (view w (message w k).view.0) → x ≡ None → client_taken w k c ≡ moved (link w k)
     unfolding client_taken
     client_open c s o = rw (← s, stays_open (enough w (message w k).view.0 (taken_with w k) size) x (choice w (message w k).view.0 (taken_with w k)) p o)
 
-    pub client_closed : (c : ℕ) → size ≡ close_size (client w c).phase (view w (message w k).view.0) → (e : Choice) → x ≡ Closed e → (one : Bool) → one ≡ e.one
+    pub client_closed : (c : ℕ) → size ≡ close_size (client w c).phase (view w (message w k).view.0) → (e : Choice) → x ≡ Some e → (one : Bool) → one ≡ e.one
         && one_exchange (view w (message w k).view.0) → client_taken w k c ≡ closes w k c e.entry one
     unfolding client_taken
     client_closed c s e o one q =
@@ -327,20 +325,29 @@ module _ (w : World) (k c : ℕ) (e : Entry) (one : Bool) where
   close_writes a p = rw p
 
 module _ (w : World) (k c : ℕ) (a : Client) where
-  pub wrote_full : messages ≤ w.used → wrote w k c a ≡ refused 10
-  unfolding wrote guard
-  wrote_full h = rw (room_none w h)
-
-  pub wrote_done : w.used < messages → wrote w k c a ≡ done (record { world = wrote_world w k c a; completed = 0 })
+  wrote_done : w.used < messages → wrote w k c a ≡ done (record { world = wrote_world w k c a; completed = 0 })
   unfolding wrote guard
   wrote_done h = rw (room_some w h)
 
-pub wrote_put : {l l1 l2 l3 : List ℕ} {k : ℕ} → Takable l k → (c n : ℕ) (a : Client) → 1 ≤ c → c ≤ clients → n ≡ (decode l).used + 1 → (decode l).used < messages
-    → l1 ≡ encode (link (decode l) k) → l2 ≡ put_client l1 c a → (m : Message) → m ≡ request WRITE c 0 a.entry → l3 ≡ put_sent l2 n m → l3 ≡ encode (wrote_world (decode l) k c a)
-unfolding wrote_world with_client
-wrote_put {l} {l1} {l2} {l3} {k} h c n a b d q u e f m i g =
-    let s : (link (decode l) k).used ≡ (decode l).used = link_used (decode l) k in
-    (sent_put (client_put (linked_whole h e) c a b d f) n (request WRITE c 0 a.entry) (q ∙ ap (λ (x : ℕ). x + 1) (sym s)) (omega arith) (g ∙ ap (put_sent l2 n) i)).is
+  wrote_none : messages ≤ w.used → wrote w k c a ≡ refused 10
+  unfolding wrote guard
+  wrote_none h = rw (room_none w h)
+
+module _ {l : List ℕ} {k : ℕ} (h : Takable l k) (c : ℕ) (a : Client) where
+  pub wrote_full : (y : Refusal) → Err y ≡ number_left (used_at l) → Does (Err y) l l (wrote (decode l) k c a)
+  wrote_full y e =
+      let (f, i) = unnumbered (used_at l) y (sym e) in
+      refuses y l _ (wrote_none (decode l) k c a (omega (arith, f, used_is h.legible)) ∙ ap (λ (x : Refusal). refused (refusal_number x)) (sym i))
+
+  pub wrote_put : 1 ≤ c → c ≤ clients → (n : MessageNumber) → Ok n ≡ number_left (used_at l) → {l1 l2 l3 : List ℕ} {m : Message} → m ≡ request WRITE c 0 a.entry
+      → l1 ≡ encode (link (decode l) k) → l2 ≡ put_client l1 c a → l3 ≡ put_sent l2 n.0 m → Does (Ok None) l l3 (wrote (decode l) k c a)
+  unfolding wrote_world with_client
+  wrote_put b d n e {l1} {l2} {l3} i f g p =
+      let (low, q) = numbered (used_at l) n (sym e) in
+      let s : (link (decode l) k).used ≡ (decode l).used = link_used (decode l) k in
+      let u = used_is h.legible in
+      does 0 (wrote_world (decode l) k c a) l l3 _ (wrote_done (decode l) k c a (omega (arith, low, u)))
+      (sent_put (client_put (linked_whole h f) c a b d g) n.0 (request WRITE c 0 a.entry) (q ∙ ap (λ (x : ℕ). x + 1) (u ∙ sym s)) (omega (arith, low, u, s)) (p ∙ ap (put_sent l2 n.0) i)).is
 
 pub complete_put : {l l1 l2 : List ℕ} {k : ℕ} → Takable l k → (c : ℕ) (a : Client) → 1 ≤ c → c ≤ clients → l1 ≡ encode (link (decode l) k) → l2 ≡ put_client l1 c a
     → l2 ≡ encode (with_client (link (decode l) k) c a)
@@ -352,32 +359,49 @@ unfoldable pub started_world : World → ℕ → Entry → World
 started_world w k e = send (with_administrator (link w k) (advance w.administrator)) (request START 0 (newest w + 1) e)
 
 module _ (w : World) (k : ℕ) (e : Entry) where
-  pub start_full : messages ≤ w.used → starts w k e ≡ refused 10
+  start_none : messages ≤ w.used → starts w k e ≡ refused 10
   unfolding starts guard
-  start_full h = rw (room_none w h)
+  start_none h = rw (room_none w h)
 
-  pub start_done : w.used < messages → starts w k e ≡ done (record { world = started_world w k e; completed = 0 })
+  start_done : w.used < messages → starts w k e ≡ done (record { world = started_world w k e; completed = 0 })
   unfolding starts guard started_world
   start_done h = rw (room_some w h)
 
 -- an administrator below view 32 goes on to the next
-module _ (a : Administrator) (x : Called) (p : called x ≡ advance_in a) (h : a.newest.0 < views) where
-  pub goes_on : (b : Administrator) → x ≡ Calling b → b ≡ advance a
-  goes_on b q = let e : done b ≡ done (advance a) = sym (ap called q) ∙ p ∙ advance_in_lem a h in cc
+module _ (a : Administrator) (x : Outcome Administrator Refusal) (p : outcome x ≡ advance_in a) (h : a.newest.0 < views) where
+  pub goes_on : (b : Administrator) → x ≡ Ok b → b ≡ advance a
+  goes_on b q = let e : done b ≡ done (advance a) = sym (ap outcome q) ∙ p ∙ advance_in_lem a h in cc
 
-  pub never_refused : (n : ℕ) → x ≡ CallRefused n → ⊥
-  never_refused n q =
-      let e : refused n ≡ done (advance a) = sym (ap called q) ∙ p ∙ advance_in_lem a h in
+  pub never_refused : (y : Refusal) → x ≡ Err y → ⊥
+  never_refused y q =
+      let e : refused (refusal_number y) ≡ done (advance a) = sym (ap outcome q) ∙ p ∙ advance_in_lem a h in
       let z : ◌≡◌ {A = ℕ} 0 1 = cc in
       omega arith
 
-pub start_put : {l l1 l2 l3 : List ℕ} {k : ℕ} → Takable l k → (n : ℕ) (a : Administrator) (e : Entry) → a ≡ advance (decode l).administrator → n ≡ (decode l).used + 1 → (decode l).used < messages
-    → l1 ≡ encode (link (decode l) k) → l2 ≡ put_administrator l1 a → (m : Message) → m ≡ request START 0 a.newest.0 e → l3 ≡ put_sent l2 n m → l3 ≡ encode (started_world (decode l) k e)
-unfolding started_world with_administrator advance
-start_put {l} {l1} {l2} {l3} {k} h n a e p q u x y m i z =
-    let s : (link (decode l) k).used ≡ (decode l).used = link_used (decode l) k in
-    (sent_put (administrator_put (linked_whole h x) (advance (decode l).administrator) (y ∙ ap (put_administrator l1) p)) n (request START 0 (newest (decode l) + 1) e)
-    (q ∙ ap (λ (m : ℕ). m + 1) (sym s)) (omega arith) (z ∙ ap (put_sent l2 n) i ∙ ap (λ (b : Administrator). put_sent l2 n (request START 0 b.newest.0 e)) p)).is
+module _ {l : List ℕ} {k : ℕ} (h : Takable l k) (e : Entry) where
+  pub start_full : (y : Refusal) → Err y ≡ number_left (used_at l) → Does (Err y) l l (starts (decode l) k e)
+  start_full y q =
+      let (f, i) = unnumbered (used_at l) y (sym q) in
+      refuses y l _ (start_none (decode l) k e (omega (arith, f, used_is h.legible)) ∙ ap (λ (x : Refusal). refused (refusal_number x)) (sym i))
+
+  module _ (v : newest (decode l) < views) (b : Administrator) (p : b ≡ administrator_at l) (x : Outcome Administrator Refusal) (q : outcome x ≡ advance_in b) where
+    low : b.newest.0 < views
+    low = subst (λ (y : Administrator). y.newest.0 < views) (sym (p ∙ administrator_is h.legible)) v
+
+    pub start_goes_on : (y : Refusal) → x ≡ Err y → ⊥
+    start_goes_on y z = never_refused b x q low y z
+
+    pub start_put : (a : Administrator) → x ≡ Ok a → (n : MessageNumber) → Ok n ≡ number_left (used_at l) → {l1 l2 l3 : List ℕ} {m : Message} → m ≡ request START 0 a.newest.0 e
+        → l1 ≡ encode (link (decode l) k) → l2 ≡ put_administrator l1 a → l3 ≡ put_sent l2 n.0 m → Does (Ok None) l l3 (starts (decode l) k e)
+    unfolding started_world with_administrator advance
+    start_put a z n c {l1} {l2} {l3} i f g r =
+        let (k', t) = numbered (used_at l) n (sym c) in
+        let s : (link (decode l) k).used ≡ (decode l).used = link_used (decode l) k in
+        let u = used_is h.legible in
+        let o : a ≡ advance (decode l).administrator = goes_on b x q low a z ∙ ap advance (p ∙ administrator_is h.legible) in
+        does 0 (started_world (decode l) k e) l l3 _ (start_done (decode l) k e (omega (arith, k', u)))
+        (sent_put (administrator_put (linked_whole h f) (advance (decode l).administrator) (g ∙ ap (put_administrator l1) o)) n.0 (request START 0 (newest (decode l) + 1) e)
+        (t ∙ ap (λ (m : ℕ). m + 1) (u ∙ sym s)) (omega (arith, k', u, s)) (r ∙ ap (put_sent l2 n.0) i ∙ ap (λ (b : Administrator). put_sent l2 n.0 (request START 0 b.newest.0 e)) o)).is
 
 -- ---- "Take: 5, not an answer; 7, taken before, or its request is neither that of an open phase nor the END number"
 
@@ -387,13 +411,13 @@ module _ (w : World) (k : ℕ) where
   take_missing p = rw p
 
   module _ (p : present w k ≡ true) where
-    pub take_other : ((message w k).kind ≡ ANSWER → ⊥) → take w k ≡ refused 5
+    pub take_other : eqb (message w k).kind ANSWER ≡ false → take w k ≡ refused 5
     unfolding take guard
-    take_other n = rw (p, ne_eqb _ _ n)
+    take_other n = rw (p, n)
 
-    pub take_again : (message w k).kind ≡ ANSWER → (message w k).taken ≡ true → take w k ≡ refused 7
+    pub take_again : eqb (message w k).kind ANSWER ≡ true → (message w k).taken ≡ true → take w k ≡ refused 7
     unfolding take guard
-    take_again i t = rw (p, eq-eqb _ _ i, t)
+    take_again i t = rw (p, i, t)
 
 module _ {l : List ℕ} {k : ℕ} (h : Takable l k) where
   shown_present : present (decode l) k ≡ true
@@ -408,43 +432,37 @@ module _ {l : List ℕ} {k : ℕ} (h : Takable l k) where
   unfolding take guard
   take_open o = rw (shown_present, eq-eqb _ _ h.untaken.is, h.untaken.free, o)
 
-  pub take_end : open? (decode l) (message (decode l) k).request.0 ≡ true → (message (decode l) (message (decode l) k).request.0).kind ≡ END → take (decode l) k ≡ end_taken (decode l) k
+  pub take_end : open? (decode l) (message (decode l) k).request.0 ≡ true → eqb (message (decode l) (message (decode l) k).request.0).kind END ≡ true → take (decode l) k ≡ end_taken (decode l) k
   unfolding takes end_taken
-  take_end o e = take_open o ∙ rw (eq-eqb _ _ e)
+  take_end o e = take_open o ∙ rw e
 
-  pub take_client : open? (decode l) (message (decode l) k).request.0 ≡ true → ((message (decode l) (message (decode l) k).request.0).kind ≡ END → ⊥)
+  pub take_client : open? (decode l) (message (decode l) k).request.0 ≡ true → eqb (message (decode l) (message (decode l) k).request.0).kind END ≡ false
       → take (decode l) k ≡ client_taken (decode l) k (message (decode l) (message (decode l) k).request.0).sender
   unfolding takes client_taken
-  take_client o n = take_open o ∙ rw (ne_eqb _ _ n)
+  take_client o n = take_open o ∙ rw n
 
 -- ---- what the records read are
 
 present_low : {l : List ℕ} → Legible l → (k : ℕ) → present (decode l) k ≡ true → k ≤ messages
 present_low {l} h k p = omega (arith, (present_is (decode l) k p).1, (whole h).full)
 
--- the message k, where the test b whether it was sent passed
-module _ {l : List ℕ} (h : Legible l) (k : ℕ) (b : Bool) (p : b ≡ present (decode l) k) (t : not b ≡ false) where
-  pub was_sent : present (decode l) k ≡ true
-  was_sent = sym p ∙ not-false b t
-
+-- the message k, which was sent
+module _ {l : List ℕ} (h : Legible l) (k : ℕ) (p : true ≡ present (decode l) k) where
   pub sent_low : k ≤ messages
-  sent_low = present_low h k was_sent
+  sent_low = present_low h k (sym p)
 
   module _ (m : Message) (e : m ≡ message_at l k) where
     sent_is : message (decode l) k ≡ m
     sent_is = sym (e ∙ message_is h k sent_low)
 
-    pub sent_kind : (x : ℕ) → m.kind ≡ x → (message (decode l) k).kind ≡ x
-    sent_kind x q = ap (λ (y : Message). y.kind) sent_is ∙ q
-
-    pub sent_other : (m.kind ≡ ANSWER → ⊥) → (message (decode l) k).kind ≡ ANSWER → ⊥
-    sent_other n q = n (ap (λ (y : Message). y.kind) (sym sent_is) ∙ q)
+    pub sent_kind : (x : Bool) → x ≡ eqb m.kind ANSWER → eqb (message (decode l) k).kind ANSWER ≡ x
+    sent_kind x q = ap (λ (y : Message). eqb y.kind ANSWER) sent_is ∙ sym q
 
     pub sent_mark : (x : Bool) → m.taken ≡ x → (message (decode l) k).taken ≡ x
     sent_mark x q = ap (λ (y : Message). y.taken) sent_is ∙ q
 
-    pub takable_at : m.kind ≡ ANSWER → m.taken ≡ false → Takable l k
-    takable_at i f = takable h k was_sent (sent_kind ANSWER i) (sent_mark false f)
+    pub takable_at : true ≡ eqb m.kind ANSWER → m.taken ≡ false → Takable l k
+    takable_at i f = takable h k (sym p) (eqb-true _ _ (sent_kind true i)) (sent_mark false f)
 
 module _ {l : List ℕ} {k : ℕ} (h : Takable l k) (m : Message) (e : m ≡ message_at l k) where
   pub answer_is : m ≡ message (decode l) k
@@ -479,8 +497,8 @@ module _ {l : List ℕ} {k : ℕ} (h : Takable l k) (m : Message) (e : m ≡ mes
         ∙ ap (λ (y : Message). tally_from (decode l) (message (decode l) k).view.0 (first_answer (message (decode l) k)) (follow (decode l) messages y.next.0)) request_is)
         ∙ tally_closes (decode l) k (chain (decode l) (message (decode l) k).request.0) size
 
-    pub asked_kind : (x : ℕ) → q.kind ≡ x → (message (decode l) (message (decode l) k).request.0).kind ≡ x
-    asked_kind x p = ap (λ (y : Message). y.kind) (sym request_is) ∙ p
+    pub asked_kind : (x : Bool) → x ≡ eqb q.kind END → eqb (message (decode l) (message (decode l) k).request.0).kind END ≡ x
+    asked_kind x p = ap (λ (y : Message). eqb y.kind END) (sym request_is) ∙ sym p
 
     pub asked_at : Asked l m.request.0 q
     asked_at = subst (λ (x : Message). Asked l x.request.0 q) (sym answer_is) (asked h q request_is)

@@ -10,7 +10,7 @@ ghost use Rattle.takes.specs.Gathered.{Packs, tally_on, opened as opened_in, Gat
 
 use codec::places::load_message;
 use protocol::{Message, MessageNumber, ServerNumber, ServerSet, ViewNumber};
-use values::sets::with_server;
+use values::sets::with;
 use values::tally::{Tally, leader, still_one};
 
 // A set of servers is below the first number; whether the answers differ stands there, and the number of an answer from the
@@ -23,28 +23,21 @@ const ABOVE: u64 = 2 * DIFFER;
 pub fn gathered(seen: ServerSet, best: MessageNumber, one: bool) -> u64
     ensures { Packs result seen best one }
 {
-    let servers = seen.0;
-    let answer = best.0;
-    let g = (servers as u64) + ABOVE * (answer as u64);
-    if one {
-        return g;
-    }
-    g + DIFFER
+    let g = seen.0 as u64 + ABOVE * best.0 as u64;
+    if one { g } else { g + DIFFER }
 }
 
 fn seen_in(g: u64) -> ServerSet
     ensures { result ≡ record { 0 = g % 2 ^ 32 } }
 {
-    let servers = g % DIFFER;
-    ServerSet(servers as u32)
+    ServerSet((g % DIFFER) as u32)
 }
 
 fn best_in(g: u64) -> MessageNumber
     requires { g / 2 ^ 33 ≤ messages }
     ensures { result ≡ record { 0 = g / 2 ^ 33 } }
 {
-    let answer = g / ABOVE;
-    MessageNumber(answer as u16)
+    MessageNumber((g / ABOVE) as u16)
 }
 
 fn one_in(g: u64) -> bool
@@ -60,7 +53,7 @@ fn with_answer(image: &[u8], g: u64, n: MessageNumber, m: Message) -> u64
 {
     let before = opened(image, g);
     let best = best_in(g);
-    let heard = with_server(before.seen, ServerNumber(m.sender));
+    let heard = with(before.seen, ServerNumber(m.sender));
     let leads = leader(best, before.best, n, m.entry);
     let one = still_one(before.one, before.best, m.entry);
     gathered(heard, leads, one)
@@ -73,20 +66,14 @@ pub fn gather(image: &[u8], t: ViewNumber, n: MessageNumber, left: u16, g: u64) 
     requires { Walk image.now left n.0 × (g / 2 ^ 33 ≤ messages) }
     ensures { Gathers (decode image.now) result (tally_on (decode image.now) t.0 g left n.0) }
 {
-    if n.0 == 0 {
-        return g;
-    }
-    if left == 0 {
+    if n.0 == 0 || left == 0 {
         return g;
     }
     let m = load_message(image, n);
-    let next = m.next;
-    let view = m.view;
-    if view.0 != t.0 {
-        return gather(image, t, next, left - 1, g);
+    if m.view.0 != t.0 {
+        return gather(image, t, m.next, left - 1, g);
     }
-    let more = with_answer(image, g, n, m);
-    gather(image, t, next, left - 1, more)
+    gather(image, t, m.next, left - 1, with_answer(image, g, n, m))
 }
 
 // The tally that a number stands for.
@@ -94,14 +81,9 @@ pub fn opened(image: &[u8], g: u64) -> Tally
     requires { (length image.now ≡ image_size) × (g / 2 ^ 33 ≤ messages) }
     ensures { result ≡ opened_in (decode image.now) g }
 {
-    let seen = seen_in(g);
-    let best = best_in(g);
-    let one = one_in(g);
-    let m = load_message(image, best);
-    let entry = m.entry;
     Tally {
-        seen: seen,
-        best: entry,
-        one: one,
+        seen: seen_in(g),
+        best: load_message(image, best_in(g)).entry,
+        one: one_in(g),
     }
 }

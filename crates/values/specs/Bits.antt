@@ -1,12 +1,13 @@
 -- Sets of the numbers 1 to 32 as bits, and their laws. Assumes nothing.
 use Rattle.std.specs.Prelude.{ℕ, zero, suc, ◌+◌, ◌-◌, ◌*◌, ◌/◌, ◌%◌, ◌^◌, ◌≤◌, ◌<◌, Bool, false, ◌≡◌, refl, leb, eqb}
-use Rattle.std.proofs.Common.{sym, ap, ap₂, ◌∙◌, add_comm, mod-lt, mod-eq_of_lt, arith, lit<, pow_pos, pow_mono, eqb-true, leb-false, eq-eqb, ne_eqb, le-leb}
+use Rattle.std.proofs.Common.{sym, ap, ap₂, ◌∙◌, add_comm, one-mul, mod-lt, mod-eq_of_lt, arith, lit<, pow_pos, pow_mono, le-leb}
+use Rattle.std.proofs.Math.Pow.{pow-lt}
+use Rattle.std.proofs.lemmas.Grind.{common_steps}
 use Rattle.std.proofs.Math.Nat.{mod-one, div-eq_of_lt}
 use Rattle.std.specs.Int.Count.{ones}
 use Rattle.std.proofs.lemmas.Nat.{ones_cat, mod-pow-add}
 use Rattle.protocol.specs.Tools.{if, bit, count_to, holds, bit_of}
 use Rattle.protocol.specs.Sizes.{servers}
-use Rattle.protocol.proofs.Laws.Tests.{by_test, clash}
 use Rattle.protocol.proofs.Laws.Bits.{holds_bit_of, holds_own, holds_none}
 
 -- the set of number k alone; none for 0 and for a number over 32
@@ -21,13 +22,9 @@ bit_in_lem k h = simp (le-leb _ _ h)
 pub own_in : (keys k : ℕ) → keys < 2 ^ 32 → (keys ≡ 0 → ⊥) → eqb keys (bit_in k) ≡ eqb keys (bit_of k)
 unfolding bit_in bit_of
 own_in keys zero h n = refl
-own_in keys (suc k) h n = by_test (leb (suc k) servers) (λ e. rw e refl) (λ e. rw (e, ne_eqb keys 0 n) (sym (ne_eqb keys (2 ^ k) (λ q. above e q))))
-  where
-    above : leb (suc k) servers ≡ false → keys ≡ 2 ^ k → ⊥
-    above e q =
-        let l = leb-false (suc k) servers e in
-        let p : 2 ^ 32 ≤ 2 ^ k = pow_mono {i = 32} {j = k} (omega (arith, l)) in
-        omega (arith, q, p)
+own_in keys (suc k) h n =
+    let p : 32 ≤ k → 2 ^ 32 ≤ 2 ^ k = pow_mono {i = 32} {j = k} in
+    grind (arith, common_steps, p)
 
 -- bit_of and holds at a number that is not 0, without taking it apart
 pub bit_at : (k : ℕ) → 0 < k → bit_of k ≡ 2 ^ (k - 1)
@@ -38,9 +35,7 @@ bit_at (suc k) h = ap (λ (n : ℕ). 2 ^ n) (omega arith)
 pub holds_at : (bits k : ℕ) → 0 < k → holds bits k ≡ eqb (bits / 2 ^ (k - 1) % 2) 1
 unfolding holds
 holds_at bits zero h = absurd (omega arith)
-holds_at bits (suc k) h =
-    let e : k ≡ suc k - 1 = omega arith in
-    ap (λ (n : ℕ). eqb (bits / 2 ^ n % 2) 1) e
+holds_at bits (suc k) h = grind (arith, common_steps)
 
 -- n bits name no number over n
 pub holds_beyond : (n bits k : ℕ) → bits < 2 ^ n → n < k → holds bits k ≡ false
@@ -50,6 +45,16 @@ holds_beyond n bits (suc k) b h =
     let p : 2 ^ n ≤ 2 ^ k = pow_mono {i = n} {j = k} (omega arith) in
     let e : bits / 2 ^ k ≡ 0 = div-eq_of_lt (omega arith) in
     simp e
+
+pub holds_high : (bits k : ℕ) → bits < 2 ^ 32 → servers < k → holds bits k ≡ false
+holds_high bits k b h = holds_beyond 32 bits k b h
+
+-- number k alone, as the code shifts it
+pub bit_shift : (k : ℕ) → 1 ≤ k → k ≤ servers → bit_in k ≡ 1 * 2 ^ (k - 1) % 4294967296
+unfolding bit_in
+bit_shift k h b =
+    let p : 2 ^ (k - 1) < 4294967296 = pow-lt {i = k - 1} {j = 32} (omega arith) in
+    simp (le-leb k servers b, bit_at k h, one-mul) (sym (mod-eq_of_lt p))
 
 -- the number of bits set is the number of the numbers named
 digit : (d : ℕ) → d < 2 → ones d ≡ bit (eqb d 1)
@@ -83,14 +88,8 @@ count_same p q (suc n) h =
 
 -- a set of one number holds that number alone
 of_held : (k s : ℕ) → 0 < s → holds (bit_of k) s ≡ eqb k s
-of_held k s h =
-    by_test (eqb k s)
-    (λ e. let p : k ≡ s = eqb-true k s e in rw p (holds_own s h ∙ sym (eq-eqb s s refl)))
-    (λ e. by_test (holds (bit_of k) s) (λ q. clash (eq-eqb k s (sym (holds_bit_of k s q))) e) (λ q. q ∙ sym e))
+of_held k s h = grind (arith, common_steps, holds_own, holds_bit_of)
 
 pub bit_held : (k s : ℕ) → 0 < s → s ≤ 32 → holds (bit_in k) s ≡ eqb k s
 unfolding bit_in
-bit_held k s h b =
-    by_test (leb k servers)
-    (λ e. rw e (of_held k s h))
-    (λ e. rw e (holds_none s ∙ sym (ne_eqb k s (λ q. clash (le-leb k servers (omega arith)) e))))
+bit_held k s h b = grind (arith, common_steps, of_held, holds_none)

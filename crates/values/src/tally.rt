@@ -1,10 +1,9 @@
 // What a walk along taken answers gathers, from the newest to the oldest.
 ghost use Rattle.std.specs.Prelude.{◌≡◌};
-ghost use Rattle.protocol.specs.Clients.{taken};
 ghost use Rattle.values.specs.Tallies.{first_answer, leading, still_one, add_answer, closes_at};
 
 use super::{entries, sets};
-use protocol::{Choice, Entry, Message, MessageNumber, ServerNumber, ServerSet, Taken, ViewNumber};
+use protocol::{Choice, Entry, Message, MessageNumber, ServerNumber, ServerSet, ViewNumber};
 
 // The servers heard, the largest entry that they showed, and whether they all showed one.
 #[derive(Clone, Copy)]
@@ -15,14 +14,13 @@ pub struct Tally {
 }
 
 // The tally of one answer, the one just taken.
+#[tactic(auto, unfolding(crate::specs::Tallies::first_answer))]
 pub fn first_answer(m: Message) -> Tally
     ensures { result ≡ first_answer m }
 {
-    let best = m.entry;
-    let seen = sets::server_alone(ServerNumber(m.sender));
     Tally {
-        seen: seen,
-        best: best,
+        seen: sets::alone(ServerNumber(m.sender)),
+        best: m.entry,
         one: true,
     }
 }
@@ -32,21 +30,14 @@ pub fn first_answer(m: Message) -> Tally
 pub fn leader(best: MessageNumber, had: Entry, n: MessageNumber, shown: Entry) -> MessageNumber
     ensures { result ≡ leading best had n shown }
 {
-    let smaller = entries::below(shown, had);
-    if smaller {
-        return best;
-    }
-    n
+    if entries::below(shown, had) { best } else { n }
 }
 
 // Whether all answers carry one entry, once one more shows an entry; had is the largest before it.
 pub fn still_one(one: bool, had: Entry, shown: Entry) -> bool
     ensures { result ≡ still_one one had shown }
 {
-    if !one {
-        return false;
-    }
-    entries::same(had, shown)
+    one && entries::same(had, shown)
 }
 
 // One older answer more to a tally of view t: of another view it changes nothing, and of two equal stamps the older stays.
@@ -54,35 +45,24 @@ pub fn still_one(one: bool, had: Entry, shown: Entry) -> bool
 pub fn add_answer(a: Tally, t: ViewNumber, m: Message) -> Tally
     ensures { result ≡ add_answer a t.0 m }
 {
-    let view = m.view;
-    if view.0 != t.0 {
+    if m.view != t {
         return a;
     }
-    let shown = m.entry;
-    let had = a.best;
-    let best = entries::larger(shown, had);
-    let one = still_one(a.one, had, shown);
-    let heard = a.seen;
-    let seen = sets::with_server(heard, ServerNumber(m.sender));
     Tally {
-        seen: seen,
-        best: best,
-        one: one,
+        seen: sets::with(a.seen, ServerNumber(m.sender)),
+        best: entries::larger(m.entry, a.best),
+        one: still_one(a.one, a.best, m.entry),
     }
 }
 
 // The answer either closes its phase, with the largest entry and whether it is the only one, or leaves it open.
-pub fn closes(a: Tally, size: u32) -> Taken
-    ensures { taken result ≡ closes_at a size }
+#[tactic(auto, unfolding(crate::specs::Tallies::closes_at))]
+pub fn closes(a: Tally, size: u32) -> Option<Choice>
+    ensures { result ≡ closes_at a size }
 {
-    let best = a.best;
-    let heard = a.seen;
-    let n = sets::servers_in(heard);
-    if size <= n {
-        return Taken::Closed(Choice {
-            entry: best,
-            one: a.one,
-        });
-    }
-    Taken::Open
+    let choice = Choice {
+        entry: a.best,
+        one: a.one,
+    };
+    (size <= sets::servers_in(a.seen)).then_some(choice)
 }

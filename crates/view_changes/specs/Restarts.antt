@@ -1,12 +1,14 @@
 -- A restart on the image of a readable world: the emptying of a request's chain, message by message (`unlink_zero`, `unlink_none`,
 -- `unlink_on`, `emptied_image`), then its stores (`restarted`, `restarted_kept`, `restarted_new`). Assumes nothing.
-use Rattle.std.specs.Prelude.{ℕ, ◌+◌, ◌-◌, ◌≤◌, ◌<◌, true, false, ◌≡◌, List, ◌∷◌}
+use Rattle.std.specs.Prelude.{ℕ, ◌+◌, ◌-◌, ◌≤◌, ◌<◌, true, false, ◌≡◌, List, ◌∷◌, None, Result as Outcome, Ok, Err}
 use Rattle.std.proofs.Common.{arith, sym, ◌∙◌}
 use Rattle.std.proofs.Math.Path.{refl, ap, subst}
 use borrow.Author.Tests.{eq-eqb, ne_eqb}
 use Rattle.protocol.specs.declared.View.{View}
 use Rattle.protocol.specs.declared.Message.{Message}
 use Rattle.protocol.specs.declared.Administrator.{Administrator}
+use Rattle.protocol.specs.declared.refusals.Refusal.{Refusal}
+use Rattle.protocol.specs.Refusals.{outcome, refusal_number}
 use Rattle.protocol.specs.Tools.{all, Result, refused, done, passed}
 use Rattle.protocol.specs.Sizes.{views, messages}
 use Rattle.protocol.specs.Clients.{number, end_of, is_ending, restart}
@@ -25,9 +27,8 @@ use Rattle.preservation.proofs.Kept.{ended, end_sent}
 use Rattle.codec.specs.Places.{administrator_at, put_administrator, put_view, message_at, put_message}
 use Rattle.codec.specs.Images.{encode, decode}
 use Rattle.codec.specs.Laws.{Full}
-use Rattle.mail.specs.declared.Stepped.TheVariants.{StepDone}
 use Rattle.mail.specs.Images.{Legible, Does}
-use Rattle.mail.specs.Stored.{Image, does, image_of, whole, administrator_is, message_is}
+use Rattle.mail.specs.Stored.{Image, refuses, does, image_of, whole, administrator_is, message_is}
 use Rattle.mail.specs.Puts.{message_put, view_put, administrator_put}
 use Rattle.takes.specs.Takes.{Walk, linked, follow_zero, follow_none, follow_one, walk_low}
 
@@ -100,7 +101,7 @@ module _ {l : List ℕ} {r : ℕ} (h : Emptying l r) where
 -- ---- the step
 
 module _ (w : World) (v : View) where
-  pub restart_refused : (n : ℕ) → restart w.administrator v ≡ refused n → restarts w v ≡ refused n
+  restart_refused : (n : ℕ) → restart w.administrator v ≡ refused n → restarts w v ≡ refused n
   unfolding restarts
   restart_refused n e = rw e
 
@@ -132,7 +133,7 @@ pub record Restarted (l : List ℕ) (v : View) (a : Administrator) (r : ℕ) : T
   pub room : newest (decode l) < views
 
 -- b is the record that was read
-pub restart_known : {l : List ℕ} → Legible l → (v : View) (b : Administrator) (x : Result Administrator) → b ≡ administrator_at l → x ≡ restart b v
+restart_known : {l : List ℕ} → Legible l → (v : View) (b : Administrator) (x : Result Administrator) → b ≡ administrator_at l → x ≡ restart b v
     → x ≡ restart (decode l).administrator v
 restart_known {l} h v b x p r = r ∙ ap (λ (y : Administrator). restart y v) (p ∙ administrator_is h)
 
@@ -163,12 +164,20 @@ module _ {l l1 l2 : List ℕ} {v : View} {a : Administrator} {r : ℕ} (h : Rest
   end_is : with_administrator (emptied (decode l) r) a ≡ with_administrator (emptied (decode l) (end_of a.ending)) a
   end_is = ap (λ (n : ℕ). with_administrator (emptied (decode l) n) a) h.number
 
-  pub restarted_kept : v.members.0 ≡ 0 → Does (StepDone 0) l l2 (restarts (decode l) v)
+  pub restarted_kept : v.members.0 ≡ 0 → Does (Ok None) l l2 (restarts (decode l) v)
   restarted_kept z = does 0 _ l l2 _ (restart_kept (decode l) v a h.rule z) (same_is.is ∙ ap encode end_is)
 
-  pub restarted_new : {l3 : List ℕ} → (v.members.0 ≡ 0 → ⊥) → l3 ≡ put_view l2 (a.newest.0 + 1) v → Does (StepDone 0) l l3 (restarts (decode l) v)
+  pub restarted_new : {l3 : List ℕ} → (v.members.0 ≡ 0 → ⊥) → l3 ≡ put_view l2 (a.newest.0 + 1) v → Does (Ok None) l l3 (restarts (decode l) v)
   restarted_new {l3} z s =
       does 0 _ l l3 _ (restart_new (decode l) v a h.rule z)
       ((view_put same_is (a.newest.0 + 1) v (omega arith) (omega (arith, h.last, h.room)) s).is
       ∙ ap (λ (n : ℕ). encode (with_view (with_administrator (emptied (decode l) r) a) (n + 1) v)) h.last
       ∙ ap (λ (x : World). encode (with_view x (newest (decode l) + 1) v)) end_is)
+
+-- what the administrator's rule gives on the record that was read
+module _ {l : List ℕ} (h : Legible l) (v : View) (b : Administrator) (o : Outcome Administrator Refusal) (p : b ≡ administrator_at l) (e : outcome o ≡ restart b v) where
+  pub restarts_no : (y : Refusal) → o ≡ Err y → Does (Err y) l l (restarts (decode l) v)
+  restarts_no y f = refuses y l _ (restart_refused (decode l) v (refusal_number y) (sym (restart_known h v b _ p e) ∙ ap outcome f))
+
+  pub restarts_on : (a : Administrator) → o ≡ Ok a → (r : ℕ) → r ≡ end_of b.ending → Restarted l v a r
+  restarts_on a f r n = restarted h v b a r p n (sym e ∙ ap outcome f)

@@ -1,9 +1,8 @@
 -- The best of the entries that qualify is one of them, and none of them outranks it: `best_some`; where there is no best, none
 -- qualifies: `best_none`. Used by Theorem.
-use Rattle.std.specs.Prelude.{ℕ, zero, suc, ◌≤◌, ◌<◌, Bool, true, false, ◌≡◌, refl, ◌⊎◌, List, ltb, eqb}
+use Rattle.std.specs.Prelude.{ℕ, zero, suc, ◌≤◌, ◌<◌, Bool, true, false, ◌≡◌, refl, ◌⊎◌, List, ltb, eqb, Option, None, Some}
 use Rattle.std.proofs.Math.Decide.{dec_lt}
 use Rattle.std.proofs.Common.{arith, sym, subst, ◌∙◌, inl, inr, eqb-true, lt-ltb, le-ltb, eq-eqb, ne_eqb}
-use Rattle.std.proofs.Math.Option.{Option, none, some}
 use Rattle.protocol.specs.declared.Entry.{Entry}
 use Rattle.protocol.specs.Tools.{if}
 use Rattle.protocol.specs.Entries.{count_of, writer_of, below, same}
@@ -151,20 +150,20 @@ each {P} m a f k l h = go (last_or k m h)
     go (inl e) = subst P (sym e) a
     go (inr i) = f k l i
 
-pub best_none : (q : Entry → Bool) (l : List ℕ) (m : ℕ) → best_to q l m ≡ none → (k : ℕ) → 1 ≤ k → k ≤ m → q (entry_shown l k) ≡ false
+pub best_none : (q : Entry → Bool) (l : List ℕ) (m : ℕ) → best_to q l m ≡ None → (k : ℕ) → 1 ≤ k → k ≤ m → q (entry_shown l k) ≡ false
 unfolding best_to
 best_none q l zero p = λ k i h. absurd (omega arith)
 best_none q l (suc m) p = go (q (entry_shown l (suc m))) (best_to q l m) refl refl p (best_none q l m)
   where
-    go : (t : Bool) (r : Option Entry) → q (entry_shown l (suc m)) ≡ t → best_to q l m ≡ r → if t (better r (entry_shown l (suc m))) r ≡ none
-        → (best_to q l m ≡ none → (k : ℕ) → 1 ≤ k → k ≤ m → q (entry_shown l k) ≡ false) → (k : ℕ) → 1 ≤ k → k ≤ suc m → q (entry_shown l k) ≡ false
+    go : (t : Bool) (r : Option Entry) → q (entry_shown l (suc m)) ≡ t → best_to q l m ≡ r → if t (better r (entry_shown l (suc m))) r ≡ None
+        → (best_to q l m ≡ None → (k : ℕ) → 1 ≤ k → k ≤ m → q (entry_shown l k) ≡ false) → (k : ℕ) → 1 ≤ k → k ≤ suc m → q (entry_shown l k) ≡ false
     go false r a b p ih = each {P = λ k. q (entry_shown l k) ≡ false} m a (ih (b ∙ p))
-    go true none a b p ih = absurd (let z : ◌≡◌ {A = ℕ} 0 1 = cc in omega arith)
-    go true (some d) a b p ih = absurd (let z : ◌≡◌ {A = ℕ} 0 1 = cc in omega arith)
+    go true None a b p ih = absurd (let z : ◌≡◌ {A = ℕ} 0 1 = cc in omega arith)
+    go true (Some d) a b p ih = absurd (let z : ◌≡◌ {A = ℕ} 0 1 = cc in omega arith)
 
 module _ (q : Entry → Bool) (l : List ℕ) where
   -- an answer more that is no better
-  kept : {m : ℕ} {d e : Entry} → Best q l m d → (q (entry_shown l (suc m)) ≡ true → outranks (entry_shown l (suc m)) d ≡ false) → some d ≡ some e
+  kept : {m : ℕ} {d e : Entry} → Best q l m d → (q (entry_shown l (suc m)) ≡ true → outranks (entry_shown l (suc m)) d ≡ false) → Some d ≡ Some e
       → Best q l (suc m) e
   kept {m} {d} {e} b f p =
       subst (Best q l (suc m)) (inside p)
@@ -177,13 +176,13 @@ module _ (q : Entry → Bool) (l : List ℕ) where
         top = each {P = λ k. q (entry_shown l k) ≡ true → outranks (entry_shown l k) d ≡ false} m f b.top;
       })
     where
-      inside : some d ≡ some e → d ≡ e
+      inside : Some d ≡ Some e → d ≡ e
       inside p = cc
 
   -- an answer more that is better than all before
   taken : {m : ℕ} {e : Entry} → q (entry_shown l (suc m)) ≡ true
       → ((k : ℕ) → 1 ≤ k → k ≤ m → q (entry_shown l k) ≡ true → outranks (entry_shown l k) (entry_shown l (suc m)) ≡ false)
-      → some (entry_shown l (suc m)) ≡ some e → Best q l (suc m) e
+      → Some (entry_shown l (suc m)) ≡ Some e → Best q l (suc m) e
   taken {m} {e} a f p =
       subst (Best q l (suc m)) (inside p)
       (record {
@@ -195,10 +194,10 @@ module _ (q : Entry → Bool) (l : List ℕ) where
         top = each {P = λ k. q (entry_shown l k) ≡ true → outranks (entry_shown l k) (entry_shown l (suc m)) ≡ false} m (λ _. outranks_self _) f;
       })
     where
-      inside : some (entry_shown l (suc m)) ≡ some e → entry_shown l (suc m) ≡ e
+      inside : Some (entry_shown l (suc m)) ≡ Some e → entry_shown l (suc m) ≡ e
       inside p = cc
 
-pub best_some : (q : Entry → Bool) (l : List ℕ) (m : ℕ) (e : Entry) → best_to q l m ≡ some e → Best q l m e
+pub best_some : (q : Entry → Bool) (l : List ℕ) (m : ℕ) (e : Entry) → best_to q l m ≡ Some e → Best q l m e
 unfolding best_to
 best_some q l zero e p = absurd (let z : ◌≡◌ {A = ℕ} 0 1 = cc in omega arith)
 best_some q l (suc m) e p = go (q x) (best_to q l m) refl refl p (best_some q l m)
@@ -206,13 +205,13 @@ best_some q l (suc m) e p = go (q x) (best_to q l m) refl refl p (best_some q l 
     x : Entry
     x = entry_shown l (suc m)
 
-    choose : (d : Entry) (t : Bool) → outranks x d ≡ t → q x ≡ true → Best q l m d → some (if t x d) ≡ some e → Best q l (suc m) e
+    choose : (d : Entry) (t : Bool) → outranks x d ≡ t → q x ≡ true → Best q l m d → Some (if t x d) ≡ Some e → Best q l (suc m) e
     choose d true o a b p = taken q l a (λ k i h c. from_not_above (step (not_above (b.top k i h c)) (above o))) p
     choose d false o a b p = kept q l b (λ _. o) p
 
-    go : (t : Bool) (r : Option Entry) → q x ≡ t → best_to q l m ≡ r → if t (better r x) r ≡ some e
-        → ((d : Entry) → best_to q l m ≡ some d → Best q l m d) → Best q l (suc m) e
-    go false none a b p ih = absurd (let z : ◌≡◌ {A = ℕ} 0 1 = cc in omega arith)
-    go false (some d) a b p ih = kept q l (ih d b) (λ c. clash c a) p
-    go true none a b p ih = taken q l a (λ k i h c. clash c (best_none q l m b k i h)) p
-    go true (some d) a b p ih = choose d (outranks x d) refl a (ih d b) p
+    go : (t : Bool) (r : Option Entry) → q x ≡ t → best_to q l m ≡ r → if t (better r x) r ≡ Some e
+        → ((d : Entry) → best_to q l m ≡ Some d → Best q l m d) → Best q l (suc m) e
+    go false None a b p ih = absurd (let z : ◌≡◌ {A = ℕ} 0 1 = cc in omega arith)
+    go false (Some d) a b p ih = kept q l (ih d b) (λ c. clash c a) p
+    go true None a b p ih = taken q l a (λ k i h c. clash c (best_none q l m b k i h)) p
+    go true (Some d) a b p ih = choose d (outranks x d) refl a (ih d b) p

@@ -1,5 +1,6 @@
 pub mod Seen
-pub mod Ways
+pub mod Turns
+pub mod Calls
 pub mod Examples
 pub mod Counting
 pub mod Best

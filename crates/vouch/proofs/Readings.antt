@@ -1,8 +1,7 @@
 -- Document 001 tests only the candidate with the largest stamp: "it selects the pair with the highest timestamp, provided that it
 -- is not countermanded". The second choice, which drops every entry by its own test, comes to the same: `as_read`.
-use Rattle.std.specs.Prelude.{ℕ, ◌≤◌, ◌<◌, Bool, true, false, ◌&&◌, ◌||◌, ◌≡◌, refl, ◌⊎◌, List, ltb, eqb}
+use Rattle.std.specs.Prelude.{ℕ, ◌≤◌, ◌<◌, Bool, true, false, ◌&&◌, ◌||◌, ◌≡◌, refl, ◌⊎◌, List, ltb, eqb, Option, None, Some}
 use Rattle.std.proofs.Common.{arith, ap, ◌∙◌, inl, inr, ltb-true, leb-true, eqb-true, lt-ltb, le-leb, eq-eqb}
-use Rattle.std.proofs.Math.Option.{Option, none, some}
 use Rattle.std.proofs.lemmas.Bool.{not-true}
 use Rattle.protocol.specs.declared.Entry.{Entry}
 use Rattle.protocol.specs.Tools.{if}
@@ -67,25 +66,25 @@ module _ (l : List ℕ) (c : ℕ) where
   apart : (f e : Entry) → Best (standing l c) l (answer_count l) f → Best (candidate l c) l (answer_count l) e → outranks f e ≡ false
   apart f e b a = rw (← b.is) (a.top b.at b.low b.high (rw b.is (and_left (candidate l c f) _ b.qualifies)))
 
-  nothing : best (candidate l c) l ≡ none → best (standing l c) l ≡ none
+  nothing : best (candidate l c) l ≡ None → best (standing l c) l ≡ None
   nothing p = go (best (standing l c) l) refl
     where
-      go : (r : Option Entry) → best (standing l c) l ≡ r → best (standing l c) l ≡ none
-      go none e = e
-      go (some f) e =
+      go : (r : Option Entry) → best (standing l c) l ≡ r → best (standing l c) l ≡ None
+      go None e = e
+      go (Some f) e =
           let b = best_some (standing l c) l (answer_count l) f e in
           clash (rw b.is (and_left (candidate l c f) _ b.qualifies)) (best_none (candidate l c) l (answer_count l) p b.at b.low b.high)
 
-  gone : (e : Entry) → Best (candidate l c) l (answer_count l) e → dropped l c e ≡ true → best (standing l c) l ≡ none
+  gone : (e : Entry) → Best (candidate l c) l (answer_count l) e → dropped l c e ≡ true → best (standing l c) l ≡ None
   gone e a d = go (best (standing l c) l) refl
     where
-      go : (r : Option Entry) → best (standing l c) l ≡ r → best (standing l c) l ≡ none
-      go none p = p
-      go (some f) p =
+      go : (r : Option Entry) → best (standing l c) l ≡ r → best (standing l c) l ≡ None
+      go None p = p
+      go (Some f) p =
           let b = best_some (standing l c) l (answer_count l) f p in
           clash (carried l c f e (apart f e b a) d) (not-true _ (and_right (candidate l c f) _ b.qualifies))
 
-  stays : (e : Entry) → Best (candidate l c) l (answer_count l) e → dropped l c e ≡ false → best (standing l c) l ≡ some e
+  stays : (e : Entry) → Best (candidate l c) l (answer_count l) e → dropped l c e ≡ false → best (standing l c) l ≡ Some e
   stays e a d = go (best (standing l c) l) refl
     where
       stands : standing l c e ≡ true
@@ -94,20 +93,20 @@ module _ (l : List ℕ) (c : ℕ) where
       stands_there : standing l c (entry_shown l a.at) ≡ true
       stands_there = rw a.is stands
 
-      go : (r : Option Entry) → best (standing l c) l ≡ r → best (standing l c) l ≡ some e
-      go none p = clash stands_there (best_none (standing l c) l (answer_count l) p a.at a.low a.high)
-      go (some f) p =
+      go : (r : Option Entry) → best (standing l c) l ≡ r → best (standing l c) l ≡ Some e
+      go None p = clash stands_there (best_none (standing l c) l (answer_count l) p a.at a.low a.high)
+      go (Some f) p =
           let b = best_some (standing l c) l (answer_count l) f p in
           let o : outranks e f ≡ false = rw (← a.is) (b.top a.at a.low a.high stands_there) in
-          p ∙ ap some (level_one f e (apart f e b a) o)
+          p ∙ ap Some (level_one f e (apart f e b a) o)
 
   pub as_read : best (standing l c) l ≡ provided l c (best (candidate l c) l)
   as_read = go (best (candidate l c) l) refl
     where
-      choose : (e : Entry) (t : Bool) → dropped l c e ≡ t → Best (candidate l c) l (answer_count l) e → best (standing l c) l ≡ if t none (some e)
+      choose : (e : Entry) (t : Bool) → dropped l c e ≡ t → Best (candidate l c) l (answer_count l) e → best (standing l c) l ≡ if t None (Some e)
       choose e true d a = gone e a d
       choose e false d a = stays e a d
 
       go : (r : Option Entry) → best (candidate l c) l ≡ r → best (standing l c) l ≡ provided l c r
-      go none p = nothing p
-      go (some e) p = choose e (dropped l c e) refl (best_some (candidate l c) l (answer_count l) e p)
+      go None p = nothing p
+      go (Some e) p = choose e (dropped l c e) refl (best_some (candidate l c) l (answer_count l) e p)

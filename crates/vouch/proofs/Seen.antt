@@ -1,26 +1,15 @@
 -- The bits gathered name as many servers as show an entry that passes, `seen_showing`. Used by the functions that count.
-use Rattle.std.specs.Prelude.{ℕ, zero, suc, ◌+◌, ◌≤◌, ◌<◌, Bool, true, false, not, ◌&&◌, ◌||◌, ◌≡◌, refl, List, eqb}
-use Rattle.std.proofs.Common.{add-one, arith, sym, ap, ◌∙◌}
+use Rattle.std.specs.Prelude.{ℕ, zero, suc, ◌≤◌, ◌<◌, Bool, true, false, ◌&&◌, ◌||◌, ◌≡◌, refl, List, eqb}
+use Rattle.std.proofs.Common.{arith, sym, ap, ◌∙◌}
 use Rattle.std.proofs.Math.Bool.{or-false}
-use Rattle.std.proofs.lemmas.Bool.{not-true, not-false}
 use Rattle.std.specs.Int.Bits.{bit_or}
 use Rattle.protocol.specs.declared.Entry.{Entry}
-use Rattle.protocol.specs.declared.ServerSet.{ServerSet}
 use Rattle.protocol.specs.Tools.{if, count_to, holds}
 use Rattle.protocol.specs.Sizes.{servers}
-use Rattle.protocol.specs.Entries.{below, same}
 use Rattle.protocol.proofs.Laws.Bits.{holds_or, holds_none}
 use Rattle.values.specs.Bits.{bit_in, bit_held, count_same}
 use Rattle.vouch.specs.Answers.{answer_count, answerer, entry_shown, some_to, shows_by, shows, showing}
-use Rattle.vouch.specs.Seen.{test, seen_with, seen_to}
-
-pub seen_start : (p : Entry → Bool) (l : List ℕ) → 0 ≡ seen_to p l 0
-unfolding seen_to
-seen_start p l = refl
-
-pub seen_more : (p : Entry → Bool) (l : List ℕ) (k seen r : ℕ) → seen ≡ seen_to p l k → r ≡ seen_with p l (k + 1) seen → r ≡ seen_to p l (k + 1)
-unfolding seen_to
-seen_more p l k seen r e f = f ∙ rw (e, add-one) refl
+use Rattle.vouch.specs.Seen.{seen_with, seen_to}
 
 held : (t : Bool) (seen a s : ℕ) → 0 < s → s ≤ servers → holds (if t (bit_or seen (bit_in a)) seen) s ≡ holds seen s || (eqb a s && t)
 held true seen a s h k = holds_or seen (bit_in a) s ∙ ap (λ (b : Bool). holds seen s || b) (bit_held a s h k ∙ sym (and-true (eqb a s)))
@@ -48,20 +37,3 @@ unfolding showing shows
 seen_showing {r} {seen} p l m k c g e i j =
     let q : k ≡ answer_count l = omega arith in
     c ∙ count_same (holds seen) (shows p l) servers (λ s h b. rw (g, q) (seen_shows p l (answer_count l) s h b))
-
--- ---- the ways out of the functions below it
-
-pub test_larger : {r : Bool} (larger : Bool) (e x : Entry) → larger ≡ true → r ≡ below e x → r ≡ test larger e x
-test_larger larger e x h p = rw h p
-
-pub test_same : {r : Bool} (larger : Bool) (e x : Entry) → larger ≡ false → r ≡ same e x → r ≡ test larger e x
-test_same larger e x h p = rw h p
-
-pub seen_skips : {t : Bool} {x : Entry} (p : Entry → Bool) (l : List ℕ) (k seen : ℕ) → x ≡ entry_shown l k → t ≡ p x → not t ≡ true → seen ≡ seen_with p l k seen
-unfolding seen_with
-seen_skips {t} {x} p l k seen e f g = rw (← e, ← f, not-true t g) refl
-
-pub seen_adds : {t : Bool} {x : Entry} {s : ℕ} {r : ServerSet} (p : Entry → Bool) (l : List ℕ) (k : ℕ) (seen : ServerSet) → x ≡ entry_shown l k → t ≡ p x → not t ≡ false
-    → s ≡ answerer l k → r ≡ record { 0 = bit_or seen.0 (bit_in s) } → r.0 ≡ seen_with p l k seen.0
-unfolding seen_with
-seen_adds {t} {x} {s} {r} p l k seen e f g h i = rw (i, ← e, ← f, not-false t g, ← h) refl

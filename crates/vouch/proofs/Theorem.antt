@@ -2,9 +2,8 @@
 -- definitions nor the code know anything.
 use Prim.Native.Nat.{ℕ, zero, suc, ◌-◌, ◌≤◌, ◌<◌}
 use native.Mathlib.Omega.{arith}
-use Rattle.std.specs.Prelude.{Bool, true, not, ◌&&◌, ◌≡◌, refl, ◌⊎◌, List, leb}
+use Rattle.std.specs.Prelude.{Bool, true, not, ◌&&◌, ◌≡◌, refl, ◌⊎◌, List, leb, Option, None, Some}
 use Rattle.std.proofs.Math.Bool.{false}
-use Rattle.std.proofs.Math.Option.{Option, none, some}
 use Rattle.std.proofs.Math.Path.{ap}
 use Rattle.std.proofs.Common.{◌∙◌}
 use Rattle.std.proofs.Math.Logic.{inl, inr}
@@ -141,7 +140,7 @@ module _ (lying took : ℕ → Bool) (l : List ℕ) (n b : ℕ) (write : Entry) 
       go i f (inr t) = inr (rw i (f (λ q. clash (rw (i ∙ q) (same_self write)) t)))
 
   -- so the best candidate is the write
-  chosen_write : first_choice l b ≡ some write
+  chosen_write : first_choice l b ≡ Some write
   chosen_write = go (first_choice l b) refl
     where
       s : Beyond witness lying
@@ -157,11 +156,11 @@ module _ (lying took : ℕ → Bool) (l : List ℕ) (n b : ℕ) (write : Entry) 
       pick e t (inl q) = q
       pick e t (inr q) = clash (rw w.is (below_outranks write e q)) (t.top w.at w.low w.high shown_candidate)
 
-      go : (r : Option Entry) → first_choice l b ≡ r → first_choice l b ≡ some write
-      go none e = clash shown_candidate (best_none (candidate l (vouchers b)) l (answer_count l) e w.at w.low w.high)
-      go (some x) e =
+      go : (r : Option Entry) → first_choice l b ≡ r → first_choice l b ≡ Some write
+      go None e = clash shown_candidate (best_none (candidate l (vouchers b)) l (answer_count l) e w.at w.low w.high)
+      go (Some x) e =
           let t = best_some (candidate l (vouchers b)) l (answer_count l) x e in
-          e ∙ ap some (pick x t (contender x t.qualifies))
+          e ∙ ap Some (pick x t (contender x t.qualifies))
 
 -- "The first choice yields a given write if ..": for all byte strings that the checks 1 and 14 let through
 pub yields : (lying took : ℕ → Bool) (l : List ℕ) (n b : ℕ) (room : List ℕ) (write : Entry) → lengths_fit l room ≡ true → list_fits l n b ≡ true

@@ -1,7 +1,6 @@
 -- The checks of request 10, each clause of 14 by name, and the two calls on lent bytes for all of them: `vouch_on`, `threshold_on`
 -- with what they answer and leave, `Leaves`. The contracts of the public functions cite these.
-use Rattle.std.specs.Prelude.{ℕ, ◌+◌, ◌*◌, ◌-◌, ◌/◌, ◌%◌, Bool, not, ◌&&◌, ◌≡◌, List, length, leb, eqb}
-use Rattle.std.proofs.Math.Option.{Option, none, some}
+use Rattle.std.specs.Prelude.{ℕ, ◌+◌, ◌*◌, ◌-◌, ◌/◌, ◌%◌, Bool, not, ◌&&◌, ◌≡◌, List, length, leb, eqb, Option, None, Some}
 use Rattle.protocol.specs.declared.Entry.{Entry}
 use Rattle.protocol.specs.Tools.{within, all_to, Result, refused, done, guard, number_of}
 use Rattle.protocol.specs.Sizes.{servers}
@@ -60,8 +59,8 @@ list_fits l n b = answers_fit l n && (sizes_fit n b && enough_answers l n b)
 
 -- "16, no entry qualifies"
 abbrev pub qualified : Option Entry → Result Entry
-qualified none = refused 16
-qualified (some e) = done e
+qualified None = refused 16
+qualified (Some e) = done e
 
 -- "any other length is refused with 1": answers of 16 bytes each, and room for an entry
 abbrev pub lengths_fit : List ℕ → List ℕ → Bool

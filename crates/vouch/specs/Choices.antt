@@ -1,12 +1,9 @@
 -- The two choices of request 10: support of an entry, who is a candidate, the better of two, the best of the candidates, and the
 -- drop test of the second choice. `first_choice`, `second_choice`; their laws are in Best.antt.
-use Rattle.std.specs.Prelude.{ℕ, zero, suc, ◌+◌, Bool, not, ◌&&◌, ◌||◌, List, ltb, leb}
-use Rattle.std.proofs.Math.Option.{Option, none, some}
+use Rattle.std.specs.Prelude.{ℕ, zero, suc, ◌+◌, Bool, not, ◌&&◌, ◌||◌, List, ltb, leb, Option, None, Some}
 use Rattle.protocol.specs.declared.Entry.{Entry}
 use Rattle.protocol.specs.Tools.{if}
 use Rattle.protocol.specs.Entries.{below, same}
-use Rattle.vouch.specs.declared.choice.Choice.{Choice}
-use Rattle.vouch.specs.declared.choice.Choice.TheVariants.{Nothing, Best}
 use Rattle.vouch.specs.Answers.{answer_count, entry_shown, showing}
 
 -- the servers that show an entry, equal in every field
@@ -34,8 +31,8 @@ unfoldable pub outranks : Entry → Entry → Bool
 outranks e d = below d e || (not (below e d) && ltb e.value d.value)
 
 abbrev pub better : Option Entry → Entry → Option Entry
-better none e = some e
-better (some d) e = some (if (outranks e d) e d)
+better None e = Some e
+better (Some d) e = Some (if (outranks e d) e d)
 
 -- the better of what was found before and the entry of answer number k, if that qualifies
 abbrev pub best_with : (Entry → Bool) → List ℕ → ℕ → Option Entry → Option Entry
@@ -43,7 +40,7 @@ best_with q l k before = if (q (entry_shown l k)) (better before (entry_shown l 
 
 -- the best of those entries of answers 1 to k that qualify
 unfoldable pub best_to : (Entry → Bool) → List ℕ → ℕ → Option Entry
-best_to q l zero = none
+best_to q l zero = None
 best_to q l (suc k) = best_with q l (suc k) (best_to q l k)
 
 abbrev pub best : (Entry → Bool) → List ℕ → Option Entry
@@ -59,11 +56,3 @@ standing l c e = candidate l c e && not (dropped l c e)
 
 abbrev pub second_choice : List ℕ → ℕ → Option Entry
 second_choice l largest = best (standing l (vouchers largest)) l
-
--- the code's answer, and the test that it makes of an entry
-abbrev pub choice_of : Choice → Option Entry
-choice_of Nothing = none
-choice_of (Best e) = some e
-
-abbrev pub qualifies : List ℕ → ℕ → Bool → Entry → Bool
-qualifies l c drops = if drops (standing l c) (candidate l c)

@@ -3,13 +3,8 @@ use Rattle.std.specs.Prelude.{ℕ, zero, suc, Bool, List}
 use Rattle.std.specs.Int.Bits.{bit_or}
 use Rattle.protocol.specs.declared.Entry.{Entry}
 use Rattle.protocol.specs.Tools.{if}
-use Rattle.protocol.specs.Entries.{below, same}
 use Rattle.values.specs.Bits.{bit_in}
 use Rattle.vouch.specs.Answers.{answerer, entry_shown}
-
--- an entry is e, or where larger is asked for has a larger stamp
-abbrev pub test : Bool → Entry → Entry → Bool
-test larger e = if larger (below e) (same e)
 
 -- a set of servers with that of answer number k where its entry passes
 unfoldable pub seen_with : (Entry → Bool) → List ℕ → ℕ → ℕ → ℕ

@@ -19,15 +19,16 @@ pub fn count(answers: &[u8]) -> usize
 }
 
 // The server of answer number k.
+#[tactic(auto, unfolding(crate::specs::Answers::answerer))]
 pub fn answerer(answers: &[u8], k: usize) -> ServerNumber
     requires { (1 ≤ k) × (k ≤ answer_count answers.now) }
     ensures { result.0 ≡ answerer answers.now k }
 {
-    let at = ANSWER * (k - 1);
-    ServerNumber(answers[at])
+    ServerNumber(answers[ANSWER * (k - 1)])
 }
 
 // The entry of answer number k.
+#[tactic(auto, using(codec::specs::Lists::span), unfolding(crate::specs::Answers::entry_shown))]
 pub fn entry_shown(answers: &[u8], k: usize) -> Entry
     requires { (1 ≤ k) × (k ≤ answer_count answers.now) }
     ensures { result ≡ entry_shown answers.now k }

@@ -1,78 +1,57 @@
 // The best of the entries that qualify.
-ghost use Rattle.std.specs.Prelude.{◌≡◌, ◌≤◌};
-ghost use Rattle.vouch.specs.Answers.{answer_count};
-ghost use Rattle.vouch.specs.Choices.{outranks, better, best_with, best, choice_of, qualifies};
+ghost use Rattle.std.specs.Prelude.{◌≡◌, Bool};
+ghost use Rattle.protocol.specs.declared.Entry.{Entry};
+ghost use Rattle.vouch.specs.Choices.{outranks, better, best, candidate, standing};
 
-use super::{answers, support};
+use super::answers::{count, entry_shown};
+use super::support::showing;
 use protocol::Entry;
-use values::entries;
-
-// What is chosen, if any entry qualifies.
-#[derive(Clone, Copy)]
-pub enum Choice {
-    Nothing,
-    Best(Entry),
-}
+use values::entries::{below, same};
 
 // "the largest stamp, for equal stamps the smaller value": whether e is better than d.
+#[tactic(auto, unfolding(crate::specs::Choices::outranks))]
 fn outranks(e: Entry, d: Entry) -> bool
     ensures { result ≡ outranks e d }
 {
-    if entries::below(d, e) {
-        return true;
-    }
-    if entries::below(e, d) {
-        return false;
-    }
-    e.value < d.value
+    below(d, e) || !below(e, d) && e.value < d.value
 }
 
 // The better of what was chosen before and an entry.
-fn better(before: Choice, e: Entry) -> Choice
-    ensures { choice_of result ≡ better (choice_of before) e }
+fn better(before: Option<Entry>, e: Entry) -> Option<Entry>
+    ensures { result ≡ better before e }
 {
-    let Choice::Best(d) = before else {
-        return Choice::Best(e);
-    };
-    if outranks(e, d) {
-        return Choice::Best(e);
+    match before {
+        Some(d) if !outranks(e, d) => Some(d),
+        _ => Some(e),
     }
-    Choice::Best(d)
 }
 
-// Whether at least c servers show an entry and, where such are dropped, fewer show larger stamps.
-fn qualifies(answers: &[u8], c: u64, drops: bool, e: Entry) -> bool
-    ensures { result ≡ qualifies answers.now c drops e }
+// Whether at least c servers show an entry.
+pub fn candidate(answers: &[u8], c: u64, e: Entry) -> bool
+    ensures { result ≡ candidate answers.now c e }
 {
-    if (support::showing(answers, e, false) as u64) < c {
-        return false;
-    }
-    if !drops {
-        return true;
-    }
-    (support::showing(answers, e, true) as u64) < c
+    showing(answers, |x| same(e, x)) as u64 >= c
 }
 
-// The better of what was chosen before and the entry of answer number k, if that qualifies.
-fn weigh(answers: &[u8], k: usize, c: u64, drops: bool, before: Choice) -> Choice
-    requires { (1 ≤ k) × (k ≤ answer_count answers.now) }
-    ensures { choice_of result ≡ best_with (qualifies answers.now c drops) answers.now k (choice_of before) }
+// Whether, besides, fewer show larger stamps.
+pub fn standing(answers: &[u8], c: u64, e: Entry) -> bool
+    ensures { result ≡ standing answers.now c e }
 {
-    let e = answers::entry_shown(answers, k);
-    if !qualifies(answers, c, drops, e) {
-        return before;
-    }
-    better(before, e)
+    candidate(answers, c, e) && (showing(answers, |x| below(e, x)) as u64) < c
 }
 
 // The best of the entries that qualify.
-pub fn best(answers: &[u8], c: u64, drops: bool) -> Choice
-    ensures { choice_of result ≡ best (qualifies answers.now c drops) answers.now }
+pub fn best<F: Fn(Entry) -> bool>(answers: &[u8], qualifies: F) -> Option<Entry>
+    requires { F.IsAlwaysCallable qualifies }
+    ensures { (q : Entry → Bool) → ((e : Entry) (r : Bool) → F.post qualifies e r → r ≡ q e) → result ≡ best q answers.now }
 {
-    let n = answers::count(answers);
-    let mut chosen = Choice::Nothing;
-    for k in 0..n {
-        chosen = weigh(answers, k + 1, c, drops, chosen);
+    let mut chosen = None;
+    // Not 1..=count, whose last turn is proved apart from the others.
+    for k in 1..count(answers) + 1 {
+        let e = entry_shown(answers, k);
+        if qualifies(e) {
+            chosen = better(chosen, e);
+        }
     }
     chosen
 }

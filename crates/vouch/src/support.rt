@@ -1,43 +1,23 @@
-// How many servers show an entry, or a larger stamp.
-ghost use Rattle.std.specs.Prelude.{◌≡◌, ◌≤◌};
-ghost use Rattle.vouch.specs.Answers.{answer_count, showing};
-ghost use Rattle.vouch.specs.Seen.{test, seen_with};
+// How many servers show an entry that passes a test.
+ghost use Rattle.std.specs.Prelude.{◌≡◌, Bool};
+ghost use Rattle.protocol.specs.declared.Entry.{Entry};
+ghost use Rattle.vouch.specs.Answers.{showing};
 
-use super::answers;
+use super::answers::{answerer, count, entry_shown};
 use protocol::{Entry, ServerSet};
-use values::{entries, sets};
+use values::sets;
 
-// Whether x is the entry e, or where larger is asked for has a larger stamp.
-fn passes(e: Entry, x: Entry, larger: bool) -> bool
-    ensures { result ≡ test larger e x }
+// How many servers show an entry that passes: each server is one bit, however often it answers.
+pub fn showing<F: Fn(Entry) -> bool>(answers: &[u8], test: F) -> u32
+    requires { F.IsAlwaysCallable test }
+    ensures { (p : Entry → Bool) → ((x : Entry) (r : Bool) → F.post test x r → r ≡ p x) → result ≡ showing p answers.now }
 {
-    if larger {
-        return entries::below(e, x);
-    }
-    entries::same(e, x)
-}
-
-// The servers seen, with that of answer number k where its entry passes.
-fn with_answer(answers: &[u8], k: usize, e: Entry, larger: bool, seen: ServerSet) -> ServerSet
-    requires { (1 ≤ k) × (k ≤ answer_count answers.now) }
-    ensures { result.0 ≡ seen_with (test larger e) answers.now k seen.0 }
-{
-    let x = answers::entry_shown(answers, k);
-    if !passes(e, x, larger) {
-        return seen;
-    }
-    let s = answers::answerer(answers, k);
-    sets::with_server(seen, s)
-}
-
-// How many servers show the entry e, or where larger is asked for a larger stamp: each server is one bit, however often it answers.
-pub fn showing(answers: &[u8], e: Entry, larger: bool) -> u32
-    ensures { result ≡ showing (test larger e) answers.now }
-{
-    let n = answers::count(answers);
     let mut seen = ServerSet(0);
-    for k in 0..n {
-        seen = with_answer(answers, k + 1, e, larger, seen);
+    // Not 1..=count, whose last turn is proved apart from the others.
+    for k in 1..count(answers) + 1 {
+        if test(entry_shown(answers, k)) {
+            seen = sets::with(seen, answerer(answers, k));
+        }
     }
     sets::servers_in(seen)
 }

@@ -1,25 +1,42 @@
 -- A step on a readable image, by its kind, and on any image. Assumes nothing.
-use Rattle.std.specs.Prelude.{ℕ, true, false, ◌≡◌, List, length, eqb}
+use Rattle.std.specs.Prelude.{ℕ, true, false, ◌≡◌, ◌≤◌, List, length, eqb, Result as Outcome, Ok, Err}
 use Rattle.std.proofs.Math.Path.{refl, sym}
-use Rattle.std.proofs.Common.{ap}
+use Rattle.std.proofs.Common.{arith, ap, ◌∙◌}
 use borrow.Author.Tests.{eq-eqb, ne_eqb}
 use Rattle.protocol.specs.declared.Step.{Step}
+use Rattle.protocol.specs.declared.kinds.StepKind.{StepKind}
+use Rattle.protocol.specs.declared.kinds.UnknownKind.{UnknownKind}
+use Rattle.protocol.specs.Kinds.{step_code, named_step, step_named}
+use Rattle.protocol.proofs.Laws.Tests.{and_left, within_true}
+use Rattle.protocol.specs.declared.refusals.Refusal.TheVariants.{WrongLength, Unreadable, Unfit}
 use Rattle.protocol.specs.Tools.{guard}
 use Rattle.protocol.specs.Clients.{WRITES, READS}
 use Rattle.protocol.specs.Worlds.{World}
-use Rattle.protocol.specs.Steps.{begins, deliver, take, fault, lie, new_view, gives_up, restarts, fields_fit, perform, step, view_asked}
+use Rattle.protocol.specs.Steps.{begins, deliver, take, fault, lie, new_view, gives_up, restarts, fields_fit, perform, step, view_asked, write_step, restart_step}
 use Rattle.protocol.specs.Runs.{step_width, step_of}
 use Rattle.codec.specs.Layout.{image_size}
 use Rattle.codec.specs.Images.{decode}
 use Rattle.readable.specs.Readable.{readable, read}
 use Rattle.image.specs.Steps.{step_on}
-use Rattle.mail.specs.declared.Stepped.TheVariants.{StepRefused}
 use Rattle.mail.specs.Images.{Legible, Does}
 use Rattle.mail.specs.Stored.{refuses}
 
--- the kinds of steps
+-- ---- the kinds of steps
+
+-- the kind of a step that has the name k
+pub is_kind : (st : Step) {o : Outcome StepKind UnknownKind} {j k : StepKind} → o ≡ Ok j → j ≡ k → o ≡ named_step st.kind → st.kind ≡ step_code k
+is_kind st {o} {j} {k} p q e = step_named st.kind k (ap (λ (x : StepKind). Ok x) (sym q) ∙ sym p ∙ e)
+
+nameless : (n : ℕ) (u : UnknownKind) → 1 ≤ n → n ≤ 9 → Err u ≡ named_step n → ⊥
+nameless n u a b e = grind arith
+
+-- "3, unknown kind": a step that check 3 has passed has a kind with a name
+pub is_named : (st : Step) {o : Outcome StepKind UnknownKind} {u : UnknownKind} → fields_fit st ≡ true → o ≡ Err u → o ≡ named_step st.kind → ⊥
+unfolding fields_fit
+is_named st {o} {u} f p e = let (a, b) = within_true write_step restart_step st.kind (and_left _ _ f) in nameless st.kind u a b (sym p ∙ e)
+
 module _ (w : World) (st : Step) where
-  pub kind_is : (k n : ℕ) → st.kind ≡ k → eqb k n ≡ eqb st.kind n
+  kind_is : (k n : ℕ) → st.kind ≡ k → eqb k n ≡ eqb st.kind n
   kind_is k n e = ap (λ (x : ℕ). eqb x n) (sym e)
 
   pub as_write : st.kind ≡ 1 → perform w st ≡ begins w st.who WRITES st.value
@@ -63,9 +80,9 @@ module _ (w : World) (st : Step) where
 
 -- ---- check 3
 
-pub unfit : {l : List ℕ} (st : Step) → fields_fit st ≡ false → Does (StepRefused 3) l l (step (decode l) st)
+pub unfit : {l : List ℕ} (st : Step) → fields_fit st ≡ false → Does (Err Unfit) l l (step (decode l) st)
 unfolding step guard
-unfit {l} st e = refuses _ 3 l _ refl (rw e refl)
+unfit {l} st e = refuses Unfit l _ (rw e refl)
 
 pub fit : (w : World) (st : Step) → fields_fit st ≡ true → step w st ≡ perform w st
 unfolding step guard
@@ -77,18 +94,18 @@ pub legible : (l : List ℕ) → readable l ≡ true → Legible l
 legible l e = let r = read l e in record { size = r.size; image = r.image; formed = r.world }
 
 module _ (l b : List ℕ) where
-  pub wrong_image : (length l ≡ image_size → ⊥) → Does (StepRefused 1) l l (step_on l b)
+  pub wrong_image : (length l ≡ image_size → ⊥) → Does (Err WrongLength) l l (step_on l b)
   unfolding step_on guard
-  wrong_image e = refuses _ 1 l _ refl (rw (ne_eqb (length l) image_size e) refl)
+  wrong_image e = refuses WrongLength l _ (rw (ne_eqb (length l) image_size e) refl)
 
-  pub wrong_step : length l ≡ image_size → (length b ≡ step_width → ⊥) → Does (StepRefused 1) l l (step_on l b)
+  pub wrong_step : length l ≡ image_size → (length b ≡ step_width → ⊥) → Does (Err WrongLength) l l (step_on l b)
   unfolding step_on guard
-  wrong_step h e = refuses _ 1 l _ refl (rw (eq-eqb (length l) image_size h, ne_eqb (length b) step_width e) refl)
+  wrong_step h e = refuses WrongLength l _ (rw (eq-eqb (length l) image_size h, ne_eqb (length b) step_width e) refl)
 
   module _ (h : length l ≡ image_size) (k : length b ≡ step_width) where
-    pub unreadable : readable l ≡ false → Does (StepRefused 2) l l (step_on l b)
+    pub unreadable : readable l ≡ false → Does (Err Unreadable) l l (step_on l b)
     unfolding step_on guard
-    unreadable e = refuses _ 2 l _ refl (rw (eq-eqb (length l) image_size h, eq-eqb (length b) step_width k, e) refl)
+    unreadable e = refuses Unreadable l _ (rw (eq-eqb (length l) image_size h, eq-eqb (length b) step_width k, e) refl)
 
     pub whole_step : readable l ≡ true → step_on l b ≡ step (decode l) (step_of b)
     unfolding step_on guard

@@ -12,9 +12,7 @@ use codec::records::read_step;
 use deliveries::servers::{deliver, false_answer, fault};
 use fields::check::fields_fit;
 use mail::Stepped;
-use protocol::kinds::{READS, WRITES};
-use protocol::refusals::{UNFIT, UNREADABLE, WRONG_LENGTH};
-use protocol::{ServerNumber, ServerSet, Step, View};
+use protocol::{Operation, Refusal, ServerNumber, ServerSet, Step, StepKind, View};
 use readable::readable::readable;
 use takes::take::take;
 use view_changes::restarts::restarts;
@@ -31,26 +29,26 @@ fn view_asked(st: Step) -> View
     }
 }
 
-// "1 write ... 2 read ... 3 deliver ... 4 take ... 5 fault ... 6 false answer ... 7 new view"; 8, giving up; 9, the administrator restarted
+// "1 write ... 2 read ... 3 deliver ... 4 take ... 5 fault ... 6 false answer ... 7 new view"; 8, giving up; 9, the administrator
+// restarted. Check 3 has passed, so that the kind is one of these.
 fn perform(image: &mut [u8], st: Step) -> Stepped
     requires { Legible image.old × (fields_fit st ≡ true) }
     ensures { Does result image.old image.new (perform_on (decode image.old) st) }
 {
-    let kind = st.kind;
-    let who = st.who;
-    let n = st.message;
-    let t = st.view;
-    let source = st.source;
+    let Ok(kind) = StepKind::try_from(st.kind) else {
+        return Err(Refusal::Unfit);
+    };
+    let server = ServerNumber(st.who);
     match kind {
-        1 => begins(image, who, WRITES, st.value),
-        2 => begins(image, who, READS, 0),
-        3 => deliver(image, ServerNumber(who), n),
-        4 => take(image, n),
-        5 => fault(image, ServerNumber(who)),
-        6 => false_answer(image, ServerNumber(who), t, n, source),
-        7 => new_view(image, view_asked(st)),
-        8 => gives_up(image, who),
-        _ => restarts(image, view_asked(st)),
+        StepKind::Write => begins(image, st.who, Operation::Write as u8, st.value),
+        StepKind::Read => begins(image, st.who, Operation::Read as u8, 0),
+        StepKind::Deliver => deliver(image, server, st.message),
+        StepKind::Take => take(image, st.message),
+        StepKind::Fault => fault(image, server),
+        StepKind::FalseAnswer => false_answer(image, server, st.view, st.message, st.source),
+        StepKind::NewView => new_view(image, view_asked(st)),
+        StepKind::GiveUp => gives_up(image, st.who),
+        StepKind::Restart => restarts(image, view_asked(st)),
     }
 }
 
@@ -60,9 +58,8 @@ pub fn advance(image: &mut [u8], bytes: &[u8]) -> Stepped
     ensures { Does result image.old image.new (step_of (decode image.old) (step_in bytes.now)) }
 {
     let st = read_step(bytes);
-    let fits = fields_fit(st);
-    if !fits {
-        return Stepped::StepRefused(UNFIT);
+    if !fields_fit(st) {
+        return Err(Refusal::Unfit);
     }
     perform(image, st)
 }
@@ -71,15 +68,11 @@ pub fn advance(image: &mut [u8], bytes: &[u8]) -> Stepped
 pub fn step(image: &mut [u8], bytes: &[u8]) -> Stepped
     ensures { Does result image.old image.new (step_on image.old bytes.now) }
 {
-    if image.len() != IMAGE {
-        return Stepped::StepRefused(WRONG_LENGTH);
+    if image.len() != IMAGE || bytes.len() != STEP {
+        return Err(Refusal::WrongLength);
     }
-    if bytes.len() != STEP {
-        return Stepped::StepRefused(WRONG_LENGTH);
-    }
-    let legible = readable(image);
-    if !legible {
-        return Stepped::StepRefused(UNREADABLE);
+    if !readable(image) {
+        return Err(Refusal::Unreadable);
     }
     advance(image, bytes)
 }

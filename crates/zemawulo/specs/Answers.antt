@@ -1,14 +1,19 @@
 -- Answers of the C interface. Assumes nothing.
-use Rattle.std.specs.Prelude.{ℕ, ◌+◌, ◌*◌, ◌/◌, ◌%◌, ◌^◌, ◌≤◌, Bool, ◌≡◌, refl, List, ◌++◌, length, eqb}
+use Rattle.std.specs.Prelude.{ℕ, zero, suc, ◌+◌, ◌*◌, ◌/◌, ◌%◌, ◌^◌, ◌≤◌, Bool, ◌≡◌, refl, List, ◌++◌, length, eqb, is_some, unwrap_or, Option, None, Some, Result as Outcome, Ok, Err}
 use Rattle.std.proofs.Common.{sym, ap, ◌∙◌, arith, eq-eqb, ne_eqb}
 use Rattle.protocol.specs.Tools.{if, bit, within, Result, refused, done}
+use Rattle.protocol.specs.declared.Reply.{Reply}
+use Rattle.protocol.specs.declared.Shown.{Shown}
 use Rattle.protocol.specs.Sizes.{Both}
 use Rattle.protocol.proofs.Laws.Tests.{by_test, within_true, is_within}
 use Rattle.codec.specs.Lists.{put, put_put, put_all}
 use Rattle.codec.specs.Bytes.{le32}
 use Rattle.image.specs.Steps.{Played, unplayed}
 use Rattle.journal.specs.Watch.{watch_on}
-use Rattle.phases.specs.declared.call.AnswerGiven.{AnswerGiven}
+use Rattle.protocol.specs.declared.refusals.Refusal.{Refusal}
+use Rattle.protocol.specs.Refusals.{refusal_number, outcome}
+use Rattle.mail.specs.Images.{some_of, told}
+use Rattle.single.specs.Calls.{replied}
 use Rattle.phases.specs.Calls.{RecordTold, told_number, phase_left, entry_after, given_code, Answers}
 
 -- refusal + 256 * result: "Beside a refusal every other result is 0"
@@ -29,6 +34,38 @@ flagged (done b) = done (bit b)
 -- the counts of a replay stand beside a refusal too; 56 bits of an answer are left for them
 abbrev pub packed_replay : Played → ℕ
 packed_replay p = p.refusal + 256 * (p.steps % 2 ^ 56)
+
+-- a number, or 0 where there is none
+abbrev pub number_or_zero : Option ℕ → ℕ
+number_or_zero None = 0
+number_or_zero (Some n) = n
+
+pub number_is : (o : Option ℕ) → unwrap_or o 0 ≡ number_or_zero o
+number_is None = refl
+number_is (Some n) = refl
+
+pub some_of_number : (n : ℕ) → number_or_zero (some_of n) ≡ n
+some_of_number zero = refl
+some_of_number (suc n) = refl
+
+-- a server's reply, with whether it answers
+pub replied_code : (r : Reply) (b : Bool) → b ≡ is_some r.answer → 256 * bit b ≡ packed (replied (done r))
+replied_code r b e = go r.answer e
+  where
+    go : (o : Option Shown) → b ≡ is_some o → 256 * bit b ≡ packed (replied (done (record { server = r.server; answer = o })))
+    go None e = ap (λ (x : Bool). 256 * bit x) e
+    go (Some x) e = ap (λ (x : Bool). 256 * bit x) e
+
+-- what a step tells: its refusal, or the client whose operation it completed, or 0
+abbrev pub step_code : Outcome (Option ℕ) Refusal → ℕ
+step_code (Err y) = refusal_number y
+step_code (Ok c) = 256 * number_or_zero c
+
+pub step_told : (x : Result ℕ) (r : Outcome (Option ℕ) Refusal) → outcome r ≡ told x → step_code r ≡ packed x
+step_told (refused n) (Err y) e = cc
+step_told (refused n) (Ok c) e = cc
+step_told (done n) (Err y) e = cc
+step_told (done n) (Ok c) e = let d : c ≡ some_of n = cc in ap (λ (k : Option ℕ). 256 * number_or_zero k) d ∙ ap (λ (k : ℕ). 256 * k) (some_of_number n)
 
 -- ---- the second form of replay, with a buffer for the step that it names
 
@@ -89,6 +126,6 @@ pub record Gives (n : ℕ) (out_phase out_entry p e : List ℕ) (x : Result Reco
   pub phase : out_phase ≡ phase_left p x
   pub entry : out_entry ≡ entry_after e x
 
-pub given_told : {r : AnswerGiven} {out last p e : List ℕ} {x : Result RecordTold} {n : ℕ} → n ≡ packed (given_code r) → Answers r out last p e x
+pub given_told : {r : Outcome (Option Bool) Refusal} {out last p e : List ℕ} {x : Result RecordTold} {n : ℕ} → n ≡ packed (given_code r) → Answers r out last p e x
     → Gives n out last p e x
 given_told q h = record { code = q ∙ ap packed h.code; phase = h.phase; entry = h.entry }

@@ -1,16 +1,18 @@
 -- A turn that goes on is one step more; the last turn ends the input.
-use Rattle.std.proofs.Common.{refl, ◌∙◌}
-use Rattle.archive_run.specs.Loop.{none, ended, led_on, counted}
+use Rattle.std.proofs.Common.{◌≡◌, arith, subst}
+use Rattle.archive_run.specs.Loop.{Led, none, more, ended, led_on}
 use Rattle.archive_run.proofs.steps.Goals as goal
 
-pub loop-k-init : goal.loop-k-init
-loop-k-init g c = (refl, none)
+pub loop-steps-init : goal.loop-steps-init
+loop-steps-init g c = none
 
 pub next-requires : goal.next-requires
-next-requires g c = led_on c.requires c.loop-k.invariant.1
+next-requires g c = led_on c.requires c.loop-steps.invariant
 
-pub loop-k-preserved : goal.loop-k-preserved
-loop-k-preserved g c = (c.next.auto.image ∙ c.loop-k.invariant.0, counted _ _ _ _ _ c.loop-k.invariant.1 c.in_default.is c.next.ensures)
+pub loop-steps-preserved : goal.loop-steps-preserved
+loop-steps-preserved g c = more c.loop-steps.invariant (rw c.in-Ok-true.field-0-test at c.in-Ok-true.ensures)
 
 pub returns : goal.returns
-returns g c = (c.loop-k.invariant.1, ended)
+returns g c =
+    let e : c.loop-steps.steps ≡ 18446744073709551615 = omega (arith, c.loop-steps.auto.steps-end, c.loop-steps-test.false) in
+    (subst (λ n. Led c.args.image.now n c.loop-steps.image) e c.loop-steps.invariant, ended)

@@ -1,10 +1,9 @@
 -- Every accepted step of a server or of the host satisfies the relation: deliver, fault, false answer. Assumes nothing.
-use Rattle.std.specs.Prelude.{ℕ, ◌+◌, ◌≤◌, ◌<◌, Bool, not, ◌&&◌, ◌||◌, ◌≡◌, ◌⊎◌, ◌≢◌, length, eqb}
+use Rattle.std.specs.Prelude.{ℕ, ◌+◌, ◌≤◌, ◌<◌, Bool, not, ◌&&◌, ◌||◌, ◌≡◌, ◌⊎◌, ◌≢◌, length, eqb, None}
 use Rattle.std.proofs.Math.Nat.{le_refl}
 use Rattle.std.proofs.Math.Decide.{ℕ_discrete}
 use native.Mathlib.Omega.{arith}
 use Rattle.std.proofs.Math.Bool.{true, false}
-use Rattle.std.proofs.Math.Option.{none}
 use Rattle.std.proofs.Math.Path.{refl}
 use Rattle.std.proofs.Common.{sym, ap, ◌∙◌, subst, ltb-true, eqb-true}
 use Rattle.std.proofs.Math.Logic.{inl, inr}
@@ -144,8 +143,8 @@ pub data Serving (a : Server) (m : Message) (member : Bool) (r : Reply) : Type 0
   reads : m.kind ≡ READ → holds a.keys.0 a.view.0 ≡ true → r ≡ answering a a → Serving a m member r
   writes : m.kind ≡ WRITE → holds a.keys.0 a.view.0 ≡ true → r ≡ write a m.entry → Serving a m member r
   ends : m.kind ≡ END → a.faulty ≡ false → holds a.keys.0 a.view.0 ≡ true → r ≡ answering a (without_key a) → Serving a m member r
-  joins : m.kind ≡ START → member ≡ true → a.view.0 < m.view.0 → a.faulty ≡ false → r ≡ record { server = joining a m; answer = none } → Serving a m member r
-  gathers : m.kind ≡ START → member ≡ true → a.faulty ≡ true → r ≡ record { server = gathering a m; answer = none } → Serving a m member r
+  joins : m.kind ≡ START → member ≡ true → a.view.0 < m.view.0 → a.faulty ≡ false → r ≡ record { server = joining a m; answer = None } → Serving a m member r
+  gathers : m.kind ≡ START → member ≡ true → a.faulty ≡ true → r ≡ record { server = gathering a m; answer = None } → Serving a m member r
 
 pub is_done : {A : Type 0} {x y : A} → done x ≡ done y → y ≡ x
 is_done e = cc
@@ -156,7 +155,7 @@ started a m member r k e =
     go a.faulty refl (and_left member _ p) (ltb-true _ _ (and_right member _ p)) e1
   where
     go : (f : Bool) → a.faulty ≡ f → member ≡ true → a.view.0 < m.view.0
-        → if f (guard (not (holds a.keys.0 m.view.0)) 7 (done (record { server = gathering a m; answer = none }))) (done (record { server = joining a m; answer = none })) ≡ done r
+        → if f (guard (not (holds a.keys.0 m.view.0)) 7 (done (record { server = gathering a m; answer = None }))) (done (record { server = joining a m; answer = None })) ≡ done r
         → Serving a m member r
     go true f i l e = let (p, e1) = passed _ _ _ _ e in gathers k i f (is_done e1)
     go false f i l e = joins k i l f (is_done e)

@@ -2,9 +2,8 @@
 -- of a step are among `refusals`, 1 to `last_refusal`. Other laws: `refuses_guard`, `refuses_if` and `refuses_then` lead through a
 -- definition, `refuses_more` to a longer list; `among_ranged` gives the least and the largest number, and `zero_done` that 0 means
 -- done. Used by consistency/proofs/Refusals.antt. Assumes nothing.
-use Rattle.std.specs.Prelude.{ℕ, ◌≤◌, Bool, true, false, ◌&&◌, ◌||◌, ◌⊎◌, ◌≡◌, refl, List, [], ◌∷◌, length, eqb}
+use Rattle.std.specs.Prelude.{ℕ, ◌≤◌, Bool, true, false, ◌&&◌, ◌||◌, ◌⊎◌, ◌≡◌, refl, List, [], ◌∷◌, length, eqb, Option, None, Some}
 use Rattle.std.proofs.Common.{arith, true≢false, inl, inr, sym, ap, ◌∙◌, eqb-true}
-use Rattle.std.proofs.Math.Option.{Option, none, some}
 use Rattle.protocol.specs.Types.{Entry, View, Server, Phase, Idle, Reading, Writing, Client, Administrator, Message, Step, Shown}
 use Rattle.protocol.specs.Tools.{if, within, Result, refused, done, guard, then, number_of}
 use Rattle.protocol.specs.Sizes.{quorum_size, write_size}
@@ -156,8 +155,8 @@ begins_refuses w c kind value =
     refuses_then _ _ _ (refuses_more (4 ∷ []) _ _ refl (begin_refuses _ _ _ _)) (λ a. refuses_guard _ _ _ _ refl (refuses_done _ _))
 
 answers_refuses : (x : Option Shown) (w : World) (s n : ℕ) (a : Server) → Refuses (5 ∷ 6 ∷ 7 ∷ 10 ∷ []) (answers x w s n a)
-answers_refuses none w s n a = refuses_done _ _
-answers_refuses (some x) w s n a = refuses_guard _ _ _ _ refl (refuses_done _ _)
+answers_refuses None w s n a = refuses_done _ _
+answers_refuses (Some x) w s n a = refuses_guard _ _ _ _ refl (refuses_done _ _)
 
 -- "Deliver: 5 ...; 6 ...; 7 ...; 10"
 deliver_refuses : (w : World) (s n : ℕ) → Refuses (5 ∷ 6 ∷ 7 ∷ 10 ∷ []) (deliver w s n)

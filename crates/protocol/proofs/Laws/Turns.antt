@@ -1,13 +1,13 @@
 -- Every accepted step of a client or of the administrator satisfies the relation: write, read, take, new view, giving up, a restart; so every
 -- accepted step does. Assumes nothing.
-use Rattle.std.specs.Prelude.{ℕ, zero, suc, ◌+◌, ◌≤◌, ◌<◌, Bool, false, not, ◌&&◌, ◌||◌, ◌≡◌, ◌⊎◌, ◌≢◌, List, length, eqb}
+use Rattle.std.specs.Prelude.{ℕ, zero, suc, ◌+◌, ◌≤◌, ◌<◌, Bool, false, not, ◌&&◌, ◌||◌, ◌≡◌, ◌⊎◌, ◌≢◌, List, length, eqb, None, Some}
 use Rattle.std.proofs.Math.Decide.{ℕ_discrete, dec_le}
 use Rattle.std.proofs.Common.{arith, ◌∙◌, inl, inr, ltb-true, eqb-true}
 use Rattle.std.proofs.Math.Bool.{true}
 use Rattle.std.proofs.Math.Path.{refl, sym, ap, subst}
 use Rattle.std.proofs.Math.ListN.{get_or-eq_default}
 use Rattle.std.proofs.lemmas.Bool.{eqb-false}
-use Rattle.protocol.specs.Types.{ViewNumber, MessageNumber, Entry, View, Phase, Idle, Reading, Writing, Client, Administrator, Ending, Settled, EndSent, Message, Step}
+use Rattle.protocol.specs.Types.{ViewNumber, MessageNumber, Entry, View, Phase, Idle, Reading, Writing, Client, Administrator, Ending, Message, Step}
 use Rattle.protocol.specs.Tools.{if, nth, Result, refused, done, guard, passed}
 use Rattle.protocol.specs.Sizes.{clients, views, messages, sized, read_size, write_size}
 use Rattle.protocol.specs.Entries.{empty, chosen}
@@ -433,8 +433,8 @@ module _ {w : World} (h : Sound w) {k r t : ℕ} (y : Taking w k r t) where
       (start_lawful (room_left w l) _ (ending w.administrator.ending o) z (at_newest q (close_votes y _ en)) (chosen_newest q (close_chosen y)) kind)
     where
       ending : (x : Ending) → end_of x ≡ r → is_ending x ≡ true
-      ending Settled o = absurd (omega (arith, y.asked.low))
-      ending (EndSent n) o = refl
+      ending None o = absurd (omega (arith, y.asked.low))
+      ending (Some n) o = refl
 
       at_newest : {u : ℕ} {P : ℕ → ℕ → Type 0} → u ≡ newest w → Votes w u (write_size (view w u)) P → Votes w (newest w) (write_size (view w (newest w))) P
       at_newest {u} {P} q v = subst (λ (x : ℕ). Votes w x (write_size (view w x)) P) q v

@@ -1,22 +1,24 @@
-use mathlib.Core.Path.{ap, ◌∙◌}
-use mathlib.Core.List.{List}
-use Prim.Native.Nat.{ℕ, ◌/◌, ◌^◌}
-use native.Mathlib.Omega.{arith}
+use Rattle.std.proofs.Common.{ℕ, List, ◌/◌, ◌^◌, arith, ap, ap₂, ◌∙◌}
 use Rattle.codec.specs.Lists.{put}
 use Rattle.codec.specs.Bytes.{le32}
-use Rattle.zemawulo.specs.Answers.{first_put, first_kept, first_told}
+use Rattle.zemawulo.specs.Answers.{first_in, first_put, first_kept, first_told, number_is}
+use Rattle.zemawulo.proofs.write_first.Goals.{then-stop-eq1-via-then-stop-eq1, then-stop-eq1-via-else-stop-eq1+then-stop-eq2}
 use Rattle.zemawulo.proofs.write_first.Goals as goal
 
-pub returns-then-refusal-eq-WRONG_LENGTH : goal.returns-then-refusal-eq-WRONG_LENGTH
-returns-then-refusal-eq-WRONG_LENGTH c = first_kept c.args.first.now _ _ (omega (arith, c.if-refusal-eq-WRONG_LENGTH.true)) (omega (arith, c.if-refusal-eq-WRONG_LENGTH.true))
-
-pub returns-then-refusal-eq-UNREADABLE : goal.returns-then-refusal-eq-UNREADABLE
-returns-then-refusal-eq-UNREADABLE c = first_kept c.args.first.now _ _ (omega (arith, c.if-refusal-eq-UNREADABLE.true)) (omega (arith, c.if-refusal-eq-UNREADABLE.true))
+pub returns-then-stop-eq1 : goal.returns-then-stop-eq1
+returns-then-stop-eq1 c =
+    let s = c.stopped_by-stop.ensures in
+    elim c.then-stop-eq1.branch [
+      | then-stop-eq1-via-then-stop-eq1 w ↦ first_kept c.args.first.now _ _ (omega (arith, s, w.if-stop-eq1.true)) (omega (arith, s, w.if-stop-eq1.true))
+      | then-stop-eq1-via-else-stop-eq1+then-stop-eq2 w ↦ first_kept c.args.first.now _ _ (omega (arith, s, w.if-stop-eq2.true)) (omega (arith, s, w.if-stop-eq2.true))
+    ]
 
 pub returns : goal.returns
 returns c =
     let a = c.args in
+    let n = c.unwrap_or-n.result in
     c.put32-2.ensures
-    ∙ ap (λ (i : List ℕ). put i 4 (le32 (a.done.first / 2 ^ 32))) c.put32.ensures
-    ∙ first_put a.first.now a.done.first c.requires
-    ∙ first_told a.first.now a.done.refusal a.done.first c.if-refusal-eq-WRONG_LENGTH.false c.if-refusal-eq-UNREADABLE.false
+    ∙ ap (λ (i : List ℕ). put i 4 (le32 (n / 2 ^ 32))) c.put32.ensures
+    ∙ first_put a.first.now n c.requires
+    ∙ first_told a.first.now c.stopped_by-stop.result n c.if-stop-eq1.false c.if-stop-eq2.false
+    ∙ ap₂ (first_in a.first.now) c.stopped_by-stop.ensures (c.unwrap_or-n.ensures ∙ number_is a.done.first)

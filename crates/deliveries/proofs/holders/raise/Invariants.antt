@@ -1,13 +1,12 @@
-use mathlib.Core.Path.{◌≡◌}
-use Prim.Native.Nat.{◌-◌, ◌≤◌}
-use lib.ListN.{length}
+use Rattle.std.proofs.Common.{◌≡◌, ◌+◌, ◌-◌, ◌≤◌, length}
 use Rattle.protocol.specs.Sizes.{views}
 use Rattle.codec.specs.Layout.{image_size}
 use Rattle.deliveries.specs.Holders.{raised}
 use Rattle.deliveries.proofs.holders.raise.Given as goal
 
-abbrev pub invariant-loop-k : goal.invariant-loop-k
-invariant-loop-k l = (l.k ≤ views) × (l.image ≡ raised l.initial.image l.keys.0 l.k) × (length l.image ≡ image_size)
+abbrev pub invariant-loop-number : goal.invariant-loop-number
+invariant-loop-number l =
+    (1 ≤ l.number) × (l.number ≤ views + 1) × (l.image ≡ raised l.initial.image l.keys.0 (l.number - 1)) × (length l.image ≡ image_size)
 
-abbrev pub decreases-loop-k : goal.decreases-loop-k
-decreases-loop-k l = views - l.k
+abbrev pub decreases-loop-number : goal.decreases-loop-number
+decreases-loop-number l = views + 1 - l.number

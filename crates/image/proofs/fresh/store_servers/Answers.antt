@@ -1,19 +1,14 @@
-use mathlib.Core.Path.{sym}
-use native.Mathlib.Omega.{arith}
-use borrow.Author.Rules.{rules}
-use Rattle.image.specs.Fresh.{seeded_start, seeded_more}
+use Rattle.std.proofs.Common.{◌≡◌, ◌+◌, ◌-◌, refl, arith, rules}
+use Rattle.image.specs.Fresh.{seeded, seeded_next}
 use Rattle.image.proofs.fresh.store_servers.Goals as goal
 
-pub loop-k-init : goal.loop-k-init
-loop-k-init c =
-    let a = c.args in
-    (omega arith, sym (seeded_start a.image.now a.members.0), c.requires)
+pub loop-s-init : goal.loop-s-init
+unfolding seeded
+loop-s-init c = (c.requires, refl)
 
-pub loop-k-preserved : goal.loop-k-preserved
-loop-k-preserved c =
+pub loop-s-preserved : goal.loop-s-preserved
+loop-s-preserved c =
     let a = c.args in
-    let l = c.loop-k in (
-      omega arith,
-      rw (seeded_more a.image.now a.members.0 l.k, ← l.invariant.1, ← c.fresh_server-v.ensures) c.store_server.ensures,
-      search rules,
-    )
+    let l = c.loop-s in
+    let e : l.s + 1 - 1 ≡ l.s = omega arith in
+    (search rules, rw (e, seeded_next a.image.now a.members.0 l.s (omega arith), ← l.invariant.1, ← c.fresh_server.ensures) c.store_server.ensures)

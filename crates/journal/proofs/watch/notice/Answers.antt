@@ -1,6 +1,5 @@
-use borrow.Author.Rules.{rules}
 use Rattle.journal.proofs.Watches.{legible_readable}
 use Rattle.journal.proofs.watch.notice.Goals as goal
 
 pub premise_holds-requires : goal.premise_holds-requires
-premise_holds-requires c = search (legible_readable, rules)
+premise_holds-requires c = legible_readable c.requires

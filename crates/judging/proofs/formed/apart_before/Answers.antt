@@ -1,16 +1,14 @@
-use Rattle.judging.proofs.Ways.{all_none, before_no, before_more, before_end}
-use borrow.Author.Rules.{rules}
-use native.Mathlib.Omega.{arith}
+use Rattle.std.proofs.Common.{◌-◌, ◌&&◌, ◌∙◌, rules, refl}
+use Rattle.std.proofs.lemmas.Iterator.{YieldsList-from_range}
+use Rattle.std.proofs.lemmas.Iterator.Search.{all_from_yields_List}
+use Rattle.codec.specs.Ranges.{all_range}
+use Rattle.judging.specs.Logs.{apart_before, numbers_apart, stamps_apart, line_at}
 use Rattle.judging.proofs.formed.apart_before.Goals as goal
 
-pub loop-j-init : goal.loop-j-init
-loop-j-init c = (omega arith, search rules, all_none _)
-
-pub returns-then-not-apart : goal.returns-then-not-apart
-returns-then-not-apart c = search (before_no, rules) depth 7 fits 4000
-
-pub loop-j-preserved : goal.loop-j-preserved
-loop-j-preserved c = (omega arith, search rules, search (before_more, rules) depth 7 fits 4000)
-
 pub returns : goal.returns
-returns c = search (before_end, rules) depth 7 fits 4000
+unfolding apart_before
+returns c =
+    let line = line_at c.args.log.now in
+    all_from_yields_List (λ j. numbers_apart (line j) (line c.args.i) && stamps_apart (line j) (line c.args.i)) _ _ _ c.all.ensures.ran
+    (YieldsList-from_range 1 c.args.i (c.args.i - 1) refl refl) (λ x b q k. search rules)
+    ∙ all_range _ _

@@ -1,16 +1,14 @@
-use Rattle.judging.proofs.Ways.{all_none, lines_no, lines_more, lines_end}
-use borrow.Author.Rules.{rules}
-use native.Mathlib.Omega.{arith}
+use Rattle.std.proofs.Common.{◌+◌, ◌&&◌, ◌∙◌, rules, arith, refl}
+use Rattle.std.proofs.lemmas.Iterator.{YieldsList-from_range}
+use Rattle.std.proofs.lemmas.Iterator.Search.{all_from_yields_List}
+use Rattle.codec.specs.Ranges.{all_range}
+use Rattle.judging.specs.Logs.{lines_fit, line_fits, line_bytes, apart_before, lines_of}
 use Rattle.judging.proofs.formed.lines_fit.Goals as goal
 
-pub loop-i-init : goal.loop-i-init
-loop-i-init c = (omega arith, all_none _)
-
-pub returns-then-not-fits_among : goal.returns-then-not-fits_among
-returns-then-not-fits_among c = search (lines_no, rules) depth 7 fits 4000
-
-pub loop-i-preserved : goal.loop-i-preserved
-loop-i-preserved c = (omega arith, search (lines_more, rules) depth 7 fits 4000)
-
 pub returns : goal.returns
-returns c = search (lines_end, rules) depth 7 fits 4000
+unfolding lines_fit
+returns c =
+    let log = c.args.log.now in
+    all_from_yields_List (λ i. line_fits (line_bytes log i) && apart_before log i) _ _ _ c.all.ensures.ran
+    (YieldsList-from_range 1 (c.args.n + 1) (lines_of log) refl (omega arith)) (λ x b q k. search rules)
+    ∙ all_range _ _

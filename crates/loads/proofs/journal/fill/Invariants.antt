@@ -1,11 +1,9 @@
-use Rattle.loads.specs.Load.{load_from, Written}
-use mathlib.Core.Path.{◌≡◌}
-use Prim.Native.Nat.{◌≤◌, ◌-◌}
-use lib.ListN.{length}
+-- The first i steps are written.
+use Rattle.std.proofs.Common.{◌≡◌, ◌*◌, take}
+use Rattle.protocol.specs.Runs.{step_width}
+use Rattle.loads.specs.Load.{load_from}
 use Rattle.loads.proofs.journal.fill.Given as goal
 
 abbrev pub invariant-loop-i : goal.invariant-loop-i
-invariant-loop-i l = (l.i ≤ l.steps) × (l.s ≡ (load_from l.state l.i).state) × Written l.state l.initial.journal l.i l.journal × (length l.journal ≡ length l.initial.journal)
-
-abbrev pub decreases-loop-i : goal.decreases-loop-i
-decreases-loop-i l = l.steps - l.i
+invariant-loop-i l =
+    (l.draws.state ≡ (load_from l.initial.draws.state l.i).state) × (take (step_width * l.i) l.journal ≡ (load_from l.initial.draws.state l.i).journal)

@@ -1,9 +1,7 @@
-use Rattle.phases.specs.Ways.{answer_done, may_low, may_high}
-use borrow.Author.Rules.{rules}
+use Rattle.std.proofs.Common.{sym, ap, ◌∙◌}
+use Rattle.protocol.specs.Refusals.{code}
+use Rattle.phases.proofs.Taking.{told}
 use Rattle.phases.proofs.call.answer_by.Goals as goal
 
-pub take-closed-requires : goal.take-closed-requires
-take-closed-requires c = search (may_low, may_high, rules) depth 7 fits 4000
-
 pub returns : goal.returns
-returns c = search (answer_done, rules) depth 7 fits 4000
+returns c = told _ _ _ (sym c.may_take.ensures ∙ ap code c.in_ok-may_take.was) _ _ _ _ _ c.take.ensures c.write_closed.ensures

@@ -15,5 +15,5 @@ store_message-requires-2 c = (
 
 pub returns : goal.returns
 returns c =
-    linked_image c.requires _ c.load_message-a.ensures _ c.load_message-q.ensures _ _ c.linked-answer.ensures c.linked-asked.ensures c.store_message.ensures
+    linked_image c.requires _ c.load_message-a.ensures _ c.load_message-q.ensures _ _ c.linked.ensures c.linked-2.ensures c.store_message.ensures
     c.store_message-2.ensures

@@ -14,7 +14,7 @@ returns-in_default c =
     let a = c.args in
     let w = decode a.image.now in
     let p = c.requires in
-    let s = size_known p.0 a.c p.1 p.2 _ _ _ _ c.load_message-m.ensures c.load_view-v.ensures c.load_client-own.ensures c.close_size-size.ensures in
+    let s = size_known p.0 a.c p.1 p.2 _ _ _ _ c.load_message-m.ensures c.load_view-v.ensures c.load_client.ensures c.close_size-size.ensures in
     does 0 (link w a.k.0) a.image.now _ _
     (client_open w a.k.0 c.taken_with.result c.close_size-size.result c.taken_with.ensures a.c s c.in_default.is) c.link.ensures
 
@@ -22,8 +22,8 @@ pub returns : goal.returns
 returns c =
     let a = c.args in
     let p = c.requires in
-    let s = size_known p.0 a.c p.1 p.2 _ _ _ _ c.load_message-m.ensures c.load_view-v.ensures c.load_client-own.ensures c.close_size-size.ensures in
-    let o = once_known p.0 _ _ c.in-Closed.x.one _ c.load_message-m.ensures c.load_view-v.ensures c.at_once-one.ensures in
+    let s = size_known p.0 a.c p.1 p.2 _ _ _ _ c.load_message-m.ensures c.load_view-v.ensures c.load_client.ensures c.close_size-size.ensures in
+    let o = once_known p.0 _ _ c.in-Some.x.one _ c.load_message-m.ensures c.load_view-v.ensures c.at_once.ensures in
     by
-    (client_closed (decode a.image.now) a.k.0 c.taken_with.result c.close_size-size.result c.taken_with.ensures a.c s _ c.in-Closed.is _ o)
+    (client_closed (decode a.image.now) a.k.0 c.taken_with.result c.close_size-size.result c.taken_with.ensures a.c s _ c.in-Some.is _ o)
     c.close_client.ensures

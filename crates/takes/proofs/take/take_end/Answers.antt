@@ -1,4 +1,4 @@
-use mathlib.Core.Path.{sym, ap, ◌∙◌}
+use Rattle.std.proofs.Common.{sym, ap, ◌∙◌}
 use Rattle.protocol.specs.declared.Administrator.{Administrator}
 use Rattle.protocol.specs.declared.Message.{Message}
 use Rattle.protocol.specs.Sizes.{write_size}
@@ -8,18 +8,18 @@ use Rattle.mail.specs.Stored.{does, administrator_is, by}
 use Rattle.takes.specs.Takes.{view_low, view_known, answer_is, end_elsewhere, end_open, end_closed}
 use Rattle.takes.proofs.take.take_end.Goals as goal
 
-pub returns-then-t-newest : goal.returns-then-t-newest
-returns-then-t-newest c =
+pub returns-then-t-load_administrator : goal.returns-then-t-load_administrator
+returns-then-t-load_administrator c =
     let a = c.args in
     let w = decode a.image.now in
     let h = c.requires.0 in
-    let t = ap (λ (x : Message). x.view.0) (answer_is h _ c.load_message-m.ensures) in
-    let n = ap (λ (x : Administrator). x.newest.0) (c.load_administrator-a.ensures ∙ administrator_is h.legible) in
-    does 0 (link w a.k.0) a.image.now _ _ (end_elsewhere w a.k.0 (λ q. c.if-t-newest.true (t ∙ q ∙ sym n))) c.link.ensures
+    let t = ap (λ (x : Message). x.view.0) (answer_is h _ c.load_message.ensures) in
+    let n = ap (λ (x : Administrator). x.newest.0) (c.load_administrator.ensures ∙ administrator_is h.legible) in
+    does 0 (link w a.k.0) a.image.now _ _ (end_elsewhere w a.k.0 (λ q. c.if-t-load_administrator.true (t ∙ q ∙ sym n))) c.link.ensures
 
-pub load_view-v-requires : goal.load_view-v-requires
-load_view-v-requires c =
-    let (l, u) = view_low c.requires.0 _ c.load_message-m.ensures in
+pub load_view-requires : goal.load_view-requires
+load_view-requires c =
+    let (l, u) = view_low c.requires.0 _ c.load_message.ensures in
     (c.requires.0.legible.size, l, u)
 
 pub returns-in_default : goal.returns-in_default
@@ -27,19 +27,19 @@ returns-in_default c =
     let a = c.args in
     let w = decode a.image.now in
     let h = c.requires.0 in
-    let t = ap (λ (x : Message). x.view.0) (answer_is h _ c.load_message-m.ensures) in
-    let n = ap (λ (x : Administrator). x.newest.0) (c.load_administrator-a.ensures ∙ administrator_is h.legible) in
-    let s = c.write_size-size.ensures ∙ ap write_size (view_known h _ c.load_message-m.ensures _ c.load_view-v.ensures) in
+    let t = ap (λ (x : Message). x.view.0) (answer_is h _ c.load_message.ensures) in
+    let n = ap (λ (x : Administrator). x.newest.0) (c.load_administrator.ensures ∙ administrator_is h.legible) in
+    let s = c.write_size-size.ensures ∙ ap write_size (view_known h _ c.load_message.ensures _ c.load_view.ensures) in
     does 0 (link w a.k.0) a.image.now _ _
-    (end_open w a.k.0 c.taken_with.result c.write_size-size.result c.taken_with.ensures (sym t ∙ c.if-t-newest.false ∙ n) s c.in_default.is) c.link-in_default.ensures
+    (end_open w a.k.0 c.taken_with.result c.write_size-size.result c.taken_with.ensures (sym t ∙ c.if-t-load_administrator.false ∙ n) s c.in_default.is) c.link-in_default.ensures
 
 pub returns : goal.returns
 returns c =
     let a = c.args in
     let w = decode a.image.now in
     let h = c.requires.0 in
-    let t = ap (λ (x : Message). x.view.0) (answer_is h _ c.load_message-m.ensures) in
-    let n = ap (λ (x : Administrator). x.newest.0) (c.load_administrator-a.ensures ∙ administrator_is h.legible) in
-    let s = c.write_size-size.ensures ∙ ap write_size (view_known h _ c.load_message-m.ensures _ c.load_view-v.ensures) in
-    by (end_closed w a.k.0 c.taken_with.result c.write_size-size.result c.taken_with.ensures (sym t ∙ c.if-t-newest.false ∙ n) s _ c.in-Closed.is)
+    let t = ap (λ (x : Message). x.view.0) (answer_is h _ c.load_message.ensures) in
+    let n = ap (λ (x : Administrator). x.newest.0) (c.load_administrator.ensures ∙ administrator_is h.legible) in
+    let s = c.write_size-size.ensures ∙ ap write_size (view_known h _ c.load_message.ensures _ c.load_view.ensures) in
+    by (end_closed w a.k.0 c.taken_with.result c.write_size-size.result c.taken_with.ensures (sym t ∙ c.if-t-load_administrator.false ∙ n) s _ c.in-Some.is)
     c.start_view.ensures

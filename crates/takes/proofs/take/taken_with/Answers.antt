@@ -13,5 +13,5 @@ gather-answers-requires c =
 
 pub returns : goal.returns
 returns c =
-    gathers_taken c.requires _ c.load_message-m.ensures _ c.load_message-q.ensures c.args.size _ _ _ _ c.server_alone-own.ensures
-    c.gathered-first.ensures c.gather-answers.ensures _ c.opened-tally.ensures c.closes.ensures
+    gathers_taken c.requires _ c.load_message-m.ensures _ c.load_message-q.ensures c.args.size _ _ _ _ c.alone.ensures
+    c.gathered-first.ensures c.gather-answers.ensures _ c.opened.ensures c.closes.ensures

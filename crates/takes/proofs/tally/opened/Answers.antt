@@ -3,5 +3,5 @@ use Rattle.takes.proofs.tally.opened.Goals as goal
 
 pub returns : goal.returns
 returns c =
-    opens c.args.image.now c.args.g c.requires.1 _ c.seen_in-seen.ensures _ c.best_in-best.ensures _ c.one_in-one.ensures
-    _ c.load_message-m.ensures
+    opens c.args.image.now c.args.g c.requires.1 _ c.seen_in.ensures _ c.best_in.ensures _ c.one_in.ensures
+    _ c.load_message.ensures

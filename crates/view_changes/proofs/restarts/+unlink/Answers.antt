@@ -1,15 +1,16 @@
-use native.Mathlib.Omega.{arith}
-use borrow.Author.Rules.{rules}
+use Rattle.std.proofs.Common.{arith}
 use Rattle.mail.specs.Stored.{image_size_lem}
 use Rattle.takes.specs.Takes.{walk_low, walk_on}
 use Rattle.view_changes.specs.Restarts.{as_image, unlink_zero, unlink_none, unlink_on}
+use Rattle.view_changes.proofs.restarts.+unlink.Goals.{then-n-eq0-via-then-n-eq0, then-n-eq0-via-else-n-eq0+then-left-eq0}
 use Rattle.view_changes.proofs.restarts.+unlink.Goals as goal
 
 pub returns-then-n-eq0 : goal.returns-then-n-eq0
-returns-then-n-eq0 t c = search (unlink_zero, rules) depth 7 fits 4000
-
-pub returns-then-left-eq0 : goal.returns-then-left-eq0
-returns-then-left-eq0 t c = search (unlink_none, rules) depth 7 fits 4000
+returns-then-n-eq0 t c =
+    elim c.then-n-eq0.branch [
+      | then-n-eq0-via-then-n-eq0 w ↦ unlink_zero c.requires w.if-n-eq0.true
+      | then-n-eq0-via-else-n-eq0+then-left-eq0 w ↦ unlink_none c.requires w.if-left-eq0.true
+    ]
 
 pub load_message-m-requires : goal.load_message-m-requires
 load_message-m-requires t c =
@@ -29,4 +30,4 @@ store_message-requires t c =
 pub returns : goal.returns
 returns t c =
     let h = c.requires in
-    unlink_on h (omega arith) (omega arith) _ _ c.load_message-m.ensures c.linked-plain.ensures c.unlink.ensures c.store_message.ensures
+    unlink_on h (omega arith) (omega arith) _ _ c.load_message-m.ensures c.linked.ensures c.unlink.ensures c.store_message.ensures

@@ -7,4 +7,4 @@ unlink-requires c =
 
 pub returns : goal.returns
 returns c =
-    emptied_image c.requires _ _ c.load_message-q.ensures c.linked-plain.ensures c.unlink.ensures c.store_message.ensures
+    emptied_image c.requires _ _ c.load_message-q.ensures c.linked.ensures c.unlink.ensures c.store_message.ensures

@@ -1,57 +1,34 @@
-use Prim.Native.Nat.{ℕ, ◌+◌, ◌<◌}
-use native.Mathlib.Omega.{arith}
-use mathlib.Core.Path.{refl, sym, ap, ◌∙◌}
-use Rattle.protocol.specs.declared.Administrator.{Administrator}
-use Rattle.protocol.specs.Sizes.{messages}
-use Rattle.protocol.specs.Clients.{called}
-use Rattle.codec.specs.Images.{decode}
-use Rattle.mail.specs.Stored.{refuses, does, used_is, used_low, administrator_is, image_of, image_size_lem}
+use Rattle.std.proofs.Common.{arith}
+use Rattle.protocol.specs.Entries.{empty_is}
+use Rattle.std.proofs.lemmas.Result.{err_from_is_err_and}
+use Rattle.mail.specs.Stored.{passed_on, used_low, image_of, image_size_lem}
 use Rattle.mail.specs.Puts.{administrator_put}
-use Rattle.view_changes.specs.Views.{called_world, call_known, call_refused, call_full, call_done, call_low, end_known, calling_put}
+use Rattle.view_changes.specs.Views.{new_view_no, new_view_full, newest_low, new_view_done}
 use Rattle.view_changes.proofs.views.new_view.Goals as goal
 
-pub overflow_add-used : goal.overflow_add-used
-overflow_add-used c =
-    omega (arith, c.load_used-used.ensures, used_low c.requires)
+pub overflow_add-load_used : goal.overflow_add-load_used
+overflow_add-load_used c = omega (arith, c.load_used.ensures, used_low c.requires)
 
-pub returns-then-used-ge-MESSAGES : goal.returns-then-used-ge-MESSAGES
-returns-then-used-ge-MESSAGES c =
-    let a = c.args in
-    let u = c.load_used-used.ensures ∙ used_is c.requires in
-    let e = call_known c.requires a.v _ _ _ c.load_administrator-before.ensures c.load_used-used.ensures c.call-called.ensures in
-    refuses _ 10 a.image.now _ refl (call_full (decode a.image.now) a.v _ (sym e ∙ ap called c.in-Calling.is) (omega (arith, u, c.if-used-ge-MESSAGES.true)))
+pub returns-in_err-a : goal.returns-in_err-a
+returns-in_err-a c =
+    passed_on (err_from_is_err_and _ c.from_residual.ensures.1)
+    (new_view_no c.requires c.args.v _ _ _ c.load_administrator-before.ensures c.load_used.ensures c.call.ensures _ c.in_err-a.was)
 
-pub overflow_add-t : goal.overflow_add-t
-overflow_add-t c =
-    let a = c.args in
-    let e = call_known c.requires a.v _ _ _ c.load_administrator-before.ensures c.load_used-used.ensures c.call-called.ensures in
-    let n = ap (λ (x : Administrator). x.newest.0) (c.load_administrator-before.ensures ∙ administrator_is c.requires) in
-    omega (arith, n, call_low (decode a.image.now) a.v _ (sym e ∙ ap called c.in-Calling.is))
+pub returns-in_err-number : goal.returns-in_err-number
+returns-in_err-number c =
+    passed_on (err_from_is_err_and _ c.from_residual-in_err-number.ensures.1)
+    (new_view_full c.requires c.args.v _ _ _ c.load_administrator-before.ensures c.load_used.ensures c.call.ensures _ c.in_ok-a.was _ c.in_err-number.ensures)
+
+pub overflow_add-before : goal.overflow_add-before
+overflow_add-before c =
+    let n = newest_low c.requires c.args.v _ _ _ c.load_administrator-before.ensures c.load_used.ensures c.call.ensures _ c.in_ok-a.was in omega (arith, n)
 
 pub store_view-requires : goal.store_view-requires
 store_view-requires c =
-    let a = c.args in
-    let e = call_known c.requires a.v _ _ _ c.load_administrator-before.ensures c.load_used-used.ensures c.call-called.ensures in
-    let n = ap (λ (x : Administrator). x.newest.0) (c.load_administrator-before.ensures ∙ administrator_is c.requires) in
-    let b = call_low (decode a.image.now) a.v _ (sym e ∙ ap called c.in-Calling.is) in
-    (image_size_lem (administrator_put (image_of c.requires) _ c.store_administrator.ensures), omega arith, omega (arith, n, b))
+    let n = newest_low c.requires c.args.v _ _ _ c.load_administrator-before.ensures c.load_used.ensures c.call.ensures _ c.in_ok-a.was in
+    (image_size_lem (administrator_put (image_of c.requires) _ c.store_administrator.ensures), omega arith, omega (arith, n))
 
-pub returns-in-CallRefused : goal.returns-in-CallRefused
-returns-in-CallRefused c =
-    let a = c.args in
-    let e = call_known c.requires a.v _ _ _ c.load_administrator-before.ensures c.load_used-used.ensures c.call-called.ensures in
-    refuses _ _ a.image.now _ refl (call_refused (decode a.image.now) a.v _ (sym e ∙ ap called c.in-CallRefused.is))
-
-pub returns-else-used-ge-MESSAGES : goal.returns-else-used-ge-MESSAGES
-returns-else-used-ge-MESSAGES c =
-    let a = c.args in
-    let w = decode a.image.now in
-    let u = c.load_used-used.ensures ∙ used_is c.requires in
-    let s : w.used < messages = omega (arith, u, c.if-used-ge-MESSAGES.false) in
-    let e = call_known c.requires a.v _ _ _ c.load_administrator-before.ensures c.load_used-used.ensures c.call-called.ensures in
-    let d = sym e ∙ ap called c.in-Calling.is in
-    let n = ap (λ (x : Administrator). x.newest.0) (c.load_administrator-before.ensures ∙ administrator_is c.requires) in
-    let m = end_known c.requires _ _ _ c.load_administrator-before.ensures c.entry_of-empty.ensures c.request-end.ensures in
-    does 0 (called_world w a.v _) a.image.now _ _ (call_done w a.v _ d s)
-    (calling_put (image_of c.requires) a.v _ _ _ (ap (λ (x : ℕ). x + 1) n) (ap (λ (x : ℕ). x + 1) u) (call_low w a.v _ d) s
-    c.store_administrator.ensures c.store_view.ensures _ m c.send.ensures)
+pub returns : goal.returns
+returns c =
+    new_view_done c.requires c.args.v _ _ _ c.load_administrator-before.ensures c.load_used.ensures c.call.ensures _ c.in_ok-a.was _ c.in_ok-number.ensures
+    (empty_is c.default.ensures) c.request-end.ensures c.store_administrator.ensures c.store_view.ensures c.send.ensures

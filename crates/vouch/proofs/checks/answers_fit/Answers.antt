@@ -1,13 +1,11 @@
-use Rattle.vouch.proofs.Ways.{all_start, fits_more, fits_fails}
+use Rattle.std.proofs.Common.{rules}
+use Rattle.codec.specs.Ranges.{all_up_to}
+use Rattle.vouch.specs.Answers.{answer_count}
 use Rattle.vouch.specs.Checks.{answer_fits}
-use borrow.Author.Rules.{rules}
 use Rattle.vouch.proofs.checks.answers_fit.Goals as goal
 
-pub loop-k-init : goal.loop-k-init
-loop-k-init c = (search rules, all_start (answer_fits _ _))
-
-pub returns-then-not-answer_fits : goal.returns-then-not-answer_fits
-returns-then-not-answer_fits c = search (fits_fails, rules) depth 7 fits 4000
-
-pub loop-k-preserved : goal.loop-k-preserved
-loop-k-preserved c = (search rules, search (fits_more, rules) depth 7 fits 4000)
+pub returns : goal.returns
+returns c =
+    let e = c.new.ensures in
+    all_up_to (answer_fits c.args.answers.now c.args.n) (answer_count c.args.answers.now) _ _ _
+    (record { start = e.start; end = search rules; exhausted = e.exhausted }) c.all.ensures.ran (λ x b q k. search rules)

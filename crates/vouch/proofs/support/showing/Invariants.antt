@@ -1,10 +1,7 @@
-use Prim.Native.Nat.{◌-◌, ◌≤◌}
-use mathlib.Core.Path.{◌≡◌}
-use Rattle.vouch.specs.Seen.{test, seen_to}
+use Rattle.std.proofs.Common.{◌≡◌, ◌-◌, Bool}
+use Rattle.protocol.specs.declared.Entry.{Entry}
+use Rattle.vouch.specs.Seen.{seen_to}
 use Rattle.vouch.proofs.support.showing.Given as goal
 
 abbrev pub invariant-loop-k : goal.invariant-loop-k
-invariant-loop-k l = (l.k ≤ l.n) × (l.seen.0 ≡ seen_to (test l.larger l.e) l.answers l.k)
-
-abbrev pub decreases-loop-k : goal.decreases-loop-k
-decreases-loop-k l = l.n - l.k
+invariant-loop-k g l = (p : Entry → Bool) → ((e : Entry) (r : Bool) → goal.F-post g l.test e r → r ≡ p e) → l.seen.0 ≡ seen_to p l.answers (l.k - 1)

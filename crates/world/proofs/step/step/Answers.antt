@@ -1,29 +1,25 @@
-use mathlib.Core.Path.{sym, ◌∙◌}
-use borrow.Author.Tests.{not-true, not-false}
+use Rattle.std.proofs.Common.{sym}
 use Rattle.mail.specs.Stored.{by}
 use Rattle.world.specs.Performs.{legible, wrong_image, wrong_step, unreadable, whole_step}
+use Rattle.world.proofs.step.step.Goals.{then-image-ne-IMAGE-via-then-image-ne-IMAGE, then-image-ne-IMAGE-via-else-image-ne-IMAGE+then-bytes-ne-STEP}
 use Rattle.world.proofs.step.step.Goals as goal
 
 pub returns-then-image-ne-IMAGE : goal.returns-then-image-ne-IMAGE
-returns-then-image-ne-IMAGE c = let a = c.args in wrong_image a.image.now a.bytes.now c.if-image-ne-IMAGE.true
+returns-then-image-ne-IMAGE c =
+    let a = c.args in
+    elim c.then-image-ne-IMAGE.branch [
+      | then-image-ne-IMAGE-via-then-image-ne-IMAGE w ↦ wrong_image a.image.now a.bytes.now w.if-image-ne-IMAGE.true
+      | then-image-ne-IMAGE-via-else-image-ne-IMAGE+then-bytes-ne-STEP w ↦ wrong_step a.image.now a.bytes.now w.if-image-ne-IMAGE.false w.if-bytes-ne-STEP.true
+    ]
 
-pub returns-then-bytes-ne-STEP : goal.returns-then-bytes-ne-STEP
-returns-then-bytes-ne-STEP c = let a = c.args in wrong_step a.image.now a.bytes.now c.if-image-ne-IMAGE.false c.if-bytes-ne-STEP.true
-
-pub returns-then-not-legible : goal.returns-then-not-legible
-returns-then-not-legible c =
-    let a = c.args in unreadable a.image.now a.bytes.now c.if-image-ne-IMAGE.false
-    c.if-bytes-ne-STEP.false (sym c.readable-legible.ensures ∙ not-true c.readable-legible.result c.if-not-legible.true-raw)
+pub returns-then-not-readable : goal.returns-then-not-readable
+returns-then-not-readable c =
+    let a = c.args in unreadable a.image.now a.bytes.now c.if-image-ne-IMAGE.false c.if-bytes-ne-STEP.false (sym c.if-not-readable.ensures)
 
 pub advance-requires : goal.advance-requires
-advance-requires c =
-    let a = c.args in
-    (legible a.image.now (sym c.readable-legible.ensures ∙ not-false c.readable-legible.result c.if-not-legible.false-raw), c.if-bytes-ne-STEP.false)
+advance-requires c = (legible c.args.image.now (sym c.if-not-readable.ensures), c.if-bytes-ne-STEP.false)
 
 pub returns : goal.returns
 returns c =
-    let a = c.args in by
-    (whole_step a.image.now a.bytes.now c.if-image-ne-IMAGE.false
-    c.if-bytes-ne-STEP.false
-    (sym c.readable-legible.ensures ∙ not-false c.readable-legible.result
-    c.if-not-legible.false-raw)) c.advance.ensures
+    let a = c.args in
+    by (whole_step a.image.now a.bytes.now c.if-image-ne-IMAGE.false c.if-bytes-ne-STEP.false (sym c.if-not-readable.ensures)) c.advance.ensures

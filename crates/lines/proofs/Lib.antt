@@ -1,0 +1,2 @@
+pub mod Decimal
+mod Digits

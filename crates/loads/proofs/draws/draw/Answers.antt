@@ -1,7 +1,0 @@
-use Rattle.loads.specs.Draws.{draw}
-use mathlib.Core.Path.{refl}
-use Rattle.loads.proofs.draws.draw.Goals as goal
-
-pub returns : goal.returns
-unfolding draw
-returns c = refl
