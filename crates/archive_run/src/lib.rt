@@ -1,4 +1,6 @@
 // The program: standard input to lines.
+// That the image is readable is asked, not held by a struct: tried, each contract then also had to say that the image that comes
+// back is the one lent.
 #![tactic(auto)]
 
 pub mod turns;
@@ -7,8 +9,8 @@ ghost use Rattle.protocol.specs.Refusals.{code};
 ghost use Rattle.mail.specs.Images.{Legible};
 ghost use Rattle.archive_run.specs.Loop.{Led, Stops, Says};
 
-use codec::layout::{IMAGE, STEP};
-use lines::{Line, done_line};
+use codec::layout::{IMAGE, Image, STEP};
+use lines::done_line;
 use protocol::Refusal;
 use protocol::refusals::code;
 use std::io::{Read, Write};
@@ -22,13 +24,13 @@ struct Ended {
     stop: Result<(), Refusal>,
 }
 
-fn print<W: Write>(output: &mut W, line: &Line) {
-    write_all(output, line.as_str().as_bytes());
-}
-
 // Reads a record, takes its step and prints the line of the operation that it completed. False: the input has ended.
 #[tactic(auto, using(crate::specs::Loop::says_end))]
-fn next<R: Read, W: Write>(input: &mut R, output: &mut W, image: &mut [u8]) -> Result<bool, Refusal>
+fn next<R: Read, W: Write>(
+    input: &mut R,
+    output: &mut W,
+    image: &mut Image,
+) -> Result<bool, Refusal>
     requires { Legible image.old }
     ensures { Says result image.old image.new }
 {
@@ -38,7 +40,7 @@ fn next<R: Read, W: Write>(input: &mut R, output: &mut W, image: &mut [u8]) -> R
         return Ok(false);
     }
     if let Some(line) = turn(image, &bytes[..got])? {
-        print(output, &line);
+        write_all(output, line.as_str().as_bytes());
     }
     Ok(true)
 }
@@ -47,7 +49,7 @@ fn next<R: Read, W: Write>(input: &mut R, output: &mut W, image: &mut [u8]) -> R
 const TURNS: u64 = u64::MAX;
 
 // Turns until one stops.
-fn steps<R: Read, W: Write>(input: &mut R, output: &mut W, image: &mut [u8]) -> Ended
+fn steps<R: Read, W: Write>(input: &mut R, output: &mut W, image: &mut Image) -> Ended
     requires { Legible image.old }
     ensures { Led image.old result.steps image.new × Stops image.new (code result.stop) }
 {
@@ -76,5 +78,6 @@ pub fn run(rt: &HostRuntime) {
         Ok(()) => steps(&mut input, &mut output, &mut image),
         stop => Ended { steps: 0, stop },
     };
-    print(&mut output, &done_line(ended.steps, code(ended.stop)));
+    let done = done_line(ended.steps, code(ended.stop));
+    write_all(&mut output, done.as_str().as_bytes());
 }

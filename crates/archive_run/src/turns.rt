@@ -1,12 +1,13 @@
 // What the program does with each record of its input, on lent bytes.
+// That the image is readable is asked, not held by a struct: tried, each contract then also had to say that the image that comes
+// back is the one lent.
 ghost use Rattle.std.specs.Prelude.{◌≡◌, length};
 ghost use Rattle.protocol.specs.Refusals.{code, outcome_by};
-ghost use Rattle.codec.specs.Layout.{image_size};
 ghost use Rattle.image.specs.Steps.{step_on, left_by};
 ghost use Rattle.mail.specs.Images.{Legible};
 ghost use Rattle.archive_run.specs.Turns.{first_fits, first_on, line_on, bytes_of, lined};
 
-use codec::layout::STEP;
+use codec::layout::Image;
 use codec::places::load_client;
 use codec::records::read_step;
 use image::fresh::fresh;
@@ -28,9 +29,9 @@ fn first_fits(s: Step) -> bool
 pub fn first(image: &mut [u8], bytes: &[u8]) -> Result<(), Refusal>
     ensures { (code result ≡ (first_on image.old bytes.now).refusal) × (image.new ≡ (first_on image.old bytes.now).image) }
 {
-    if bytes.len() != STEP {
+    let Some(bytes) = bytes.as_array() else {
         return Err(Refusal::WrongLength);
-    }
+    };
     let s = read_step(bytes);
     if !first_fits(s) {
         return Err(Refusal::Unfit);
@@ -40,8 +41,7 @@ pub fn first(image: &mut [u8], bytes: &[u8]) -> Result<(), Refusal>
 
 // The line of the operation that client c completed, from its record in the image; none for no client.
 #[tactic(auto, unfolding(crate::specs::Turns::line_on))]
-fn completed(image: &[u8], c: u8) -> Option<Line>
-    requires { length image.now ≡ image_size }
+fn completed(image: &Image, c: u8) -> Option<Line>
     ensures { bytes_of result ≡ line_on image.now c }
 {
     if (1..=CLIENTS).contains(&c) {
@@ -52,15 +52,15 @@ fn completed(image: &[u8], c: u8) -> Option<Line>
 }
 
 // One step on a readable image, which stays readable, and the line of the operation that it completed, if it completed one.
-pub fn turn(image: &mut [u8], bytes: &[u8]) -> Result<Option<Line>, Refusal>
+pub fn turn(image: &mut Image, bytes: &[u8]) -> Result<Option<Line>, Refusal>
     requires { Legible image.old }
     ensures answer { (outcome_by bytes_of result ≡ lined (step_on image.old bytes.now))
         × (image.new ≡ left_by image.old (step_on image.old bytes.now)) }
     ensures legible { Legible image.new }
 {
-    if bytes.len() != STEP {
+    let Some(bytes) = bytes.as_array() else {
         return Err(Refusal::WrongLength);
-    }
+    };
     let client = advance(image, bytes)?;
     Ok(client.and_then(|c| completed(image, c)))
 }

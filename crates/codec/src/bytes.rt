@@ -3,7 +3,7 @@ ghost use Rattle.std.specs.Prelude.{◌≡◌, [], ◌∷◌, ◌+◌, ◌≤◌
 ghost use Rattle.std.specs.List.{list_all};
 ghost use Rattle.protocol.specs.Runs.{u16_width, u32_width, u16_at, u32_at};
 ghost use Rattle.codec.specs.Bytes.{le16, le32, zeros};
-ghost use Rattle.codec.specs.Lists.{put};
+ghost use Rattle.codec.specs.Lists.{part, put};
 
 // "little-endian"
 pub fn get16(b: &[u8], at: usize) -> u16
@@ -18,6 +18,15 @@ pub fn get32(b: &[u8], at: usize) -> u32
     ensures { result ≡ u32_at b.now at }
 {
     u32::from_le_bytes([b[at], b[at + 1], b[at + 2], b[at + 3]])
+}
+
+// The N bytes from a place on, as an array.
+#[tactic(auto, unfolding(crate::specs::Lists::part))]
+pub fn array_at<const N: usize>(b: &[u8], at: usize) -> &[u8; N]
+    requires { at + N ≤ length b.now }
+    ensures { result.now ≡ part b.now at N }
+{
+    b[at..at + N].as_array().unwrap()
 }
 
 // Writes src over the bytes of image from at on.

@@ -62,8 +62,8 @@ pub const SERVER: usize = SERVER_ENTRY_AT + ENTRY;
 // "0 idle, 1 reading, 2 writing"
 pub const LAST_PHASE: u8 = 2;
 
-// "Client: phase u8 (0 idle, 1 reading, 2 writing), kind u8 ..., request u16 (0 when idle), entry."; "The client record ends with the
-// latter (u32)": the largest count that it ever gave a write of its own.
+// "Client: phase u8 (0 idle, 1 reading, 2 writing), kind u8 ..., request u16 (0 when idle), entry."; "The client record ends with
+// the latter (u32)": the largest count that it ever gave a write of its own.
 pub const PHASE_AT: usize = 0;
 
 pub const CLIENT_KIND_AT: usize = PHASE_AT + U8;
@@ -132,8 +132,8 @@ pub const STEP_VALUE_AT: usize = SOURCE_AT + U16;
 
 pub const STEP: usize = STEP_VALUE_AT + U32;
 
-// "header 16; views 1 to 32 ...; servers 1 to 32 ...; clients 1 to 16 ...; messages 0 to 1,023", and "32 bytes after the views": where
-// each group begins
+// "header 16; views 1 to 32 ...; servers 1 to 32 ...; clients 1 to 16 ...; messages 0 to 1,023", and "32 bytes after the views":
+// where each group begins
 pub const VIEWS_AT: usize = HEADER;
 
 pub const HOLDERS_AT: usize = VIEWS_AT + (VIEWS as usize) * VIEW;
@@ -145,3 +145,6 @@ pub const CLIENTS_AT: usize = SERVERS_AT + (SERVERS as usize) * SERVER;
 pub const MESSAGES_AT: usize = CLIENTS_AT + (CLIENTS as usize) * CLIENT;
 
 pub const IMAGE: usize = MESSAGES_AT + (MESSAGES as usize + 1) * MESSAGE;
+
+// "An image": the bytes of a world.
+pub type Image = [u8; IMAGE];

@@ -1,4 +1,5 @@
-// Each record as bytes: read, written from a place on, and the test of its spare bytes, flags and tags.
+// Each record as bytes: read, written from a place on, and the test of its spare bytes, flags and tags. Writers take the buffer
+// with a place: to lend a part out would need clauses on how it comes back.
 ghost use Rattle.std.specs.Prelude.{◌≡◌, ◌+◌, ◌≤◌, length};
 ghost use Rattle.codec.specs.Layout.{entry_width, view_width, server_width, client_width, message_width, administrator_width, header_width};
 ghost use Rattle.protocol.specs.Runs.{step_of, step_width};
@@ -9,16 +10,16 @@ ghost use Rattle.codec.specs.Records.{entry_of, entry_bytes, entry_plain, view_o
 ghost use Rattle.codec.specs.Records.{client_of, client_bytes, client_plain, phase_of, phase_tag, untagged, message_of, message_bytes, message_plain};
 ghost use Rattle.codec.specs.Records.{administrator_of, administrator_bytes, administrator_plain, ending_of, header_plain};
 
-use super::bytes::{are_zero, get16, get32, put_zeros, put8, put16, put32};
+use super::bytes::{are_zero, array_at, get16, get32, put_zeros, put8, put16, put32};
 use super::layout::{
-    ADMINISTRATOR, ADMINISTRATOR_AT, CLIENT_ENTRY_AT, CLIENT_KIND_AT, CLIENT_REQUEST_AT, COUNT_AT,
-    END_AT, ENDING_AT, ENTRY, ENTRY_REST, ENTRY_REST_AT, ENTRY_SPARE, ENTRY_SPARE_AT, FAULTY_AT,
-    GIVEN_AT, HEADER_SPARE, HEADER_SPARE_AT, KEYS_AT, LAST_PHASE, MEMBERS_AT, MESSAGE_ENTRY_AT,
-    MESSAGE_KIND_AT, MESSAGE_REQUEST_AT, MESSAGE_VIEW_AT, NEWEST_AT, NEXT_AT, PHASE_AT,
-    READ_SIZE_AT, SENDER_AT, SERVER_ENTRY_AT, SERVER_SPARE, SERVER_SPARE_AT, SERVER_VIEW_AT,
-    SOURCE_AT, STEP_KIND_AT, STEP_MESSAGE_AT, STEP_THRESHOLD_AT, STEP_VALUE_AT, STEP_VIEW_AT,
-    TAKEN_AT, THRESHOLD_AT, VALUE_AT, VERSION, VERSION_AT, VIEW_SPARE, VIEW_SPARE_AT, WHO_AT,
-    WRITER_AT,
+    ADMINISTRATOR, ADMINISTRATOR_AT, CLIENT, CLIENT_ENTRY_AT, CLIENT_KIND_AT, CLIENT_REQUEST_AT,
+    COUNT_AT, END_AT, ENDING_AT, ENTRY, ENTRY_REST, ENTRY_REST_AT, ENTRY_SPARE, ENTRY_SPARE_AT,
+    FAULTY_AT, GIVEN_AT, HEADER, HEADER_SPARE, HEADER_SPARE_AT, KEYS_AT, LAST_PHASE, MEMBERS_AT,
+    MESSAGE, MESSAGE_ENTRY_AT, MESSAGE_KIND_AT, MESSAGE_REQUEST_AT, MESSAGE_VIEW_AT, NEWEST_AT,
+    NEXT_AT, PHASE_AT, READ_SIZE_AT, SENDER_AT, SERVER, SERVER_ENTRY_AT, SERVER_SPARE,
+    SERVER_SPARE_AT, SERVER_VIEW_AT, SOURCE_AT, STEP, STEP_KIND_AT, STEP_MESSAGE_AT,
+    STEP_THRESHOLD_AT, STEP_VALUE_AT, STEP_VIEW_AT, TAKEN_AT, THRESHOLD_AT, VALUE_AT, VERSION,
+    VERSION_AT, VIEW, VIEW_SPARE, VIEW_SPARE_AT, WHO_AT, WRITER_AT,
 };
 use protocol::{
     Administrator, Client, Entry, KeySet, Message, MessageNumber, Phase, Server, ServerSet, Stamp,
@@ -27,8 +28,7 @@ use protocol::{
 
 // "Entry, 12: count u32, writer u8, 3 zero bytes, value u32."
 #[tactic(auto, unfolding(crate::specs::Records::entry_of))]
-pub fn read_entry(b: &[u8]) -> Entry
-    requires { length b.now ≡ entry_width }
+pub fn read_entry(b: &[u8; ENTRY]) -> Entry
     ensures { result ≡ entry_of b.now }
 {
     Entry {
@@ -52,8 +52,7 @@ pub fn write_entry(image: &mut [u8], at: usize, e: Entry)
 }
 
 #[tactic(auto, unfolding(crate::specs::Records::entry_plain))]
-pub fn entry_plain(b: &[u8]) -> bool
-    requires { length b.now ≡ entry_width }
+pub fn entry_plain(b: &[u8; ENTRY]) -> bool
     ensures { result ≡ entry_plain b.now }
 {
     are_zero(b, ENTRY_SPARE_AT, ENTRY_SPARE) && are_zero(b, ENTRY_REST_AT, ENTRY_REST)
@@ -61,8 +60,7 @@ pub fn entry_plain(b: &[u8]) -> bool
 
 // "View: member bits u32 (bit s-1 is server s), f u8, 3 zero."; "a read size r in the first of its zero bytes"
 #[tactic(auto, unfolding(crate::specs::Records::view_of))]
-pub fn read_view(b: &[u8]) -> View
-    requires { length b.now ≡ view_width }
+pub fn read_view(b: &[u8; VIEW]) -> View
     ensures { result ≡ view_of b.now }
 {
     View {
@@ -84,8 +82,7 @@ pub fn write_view(image: &mut [u8], at: usize, v: View)
 }
 
 #[tactic(auto, unfolding(crate::specs::Records::view_plain))]
-pub fn view_plain(b: &[u8]) -> bool
-    requires { length b.now ≡ view_width }
+pub fn view_plain(b: &[u8; VIEW]) -> bool
     ensures { result ≡ view_plain b.now }
 {
     are_zero(b, VIEW_SPARE_AT, VIEW_SPARE)
@@ -93,15 +90,14 @@ pub fn view_plain(b: &[u8]) -> bool
 
 // "Server: view u8 (0 none yet), faulty u8, 2 zero, key bits u32 (bit t-1), entry."
 #[tactic(auto, unfolding(crate::specs::Records::server_of, crate::specs::Lists::part))]
-pub fn read_server(b: &[u8]) -> Server
-    requires { length b.now ≡ server_width }
+pub fn read_server(b: &[u8; SERVER]) -> Server
     ensures { result ≡ server_of b.now }
 {
     Server {
         view: ViewNumber(b[SERVER_VIEW_AT]),
         faulty: b[FAULTY_AT] != 0,
         keys: KeySet(get32(b, KEYS_AT)),
-        entry: read_entry(&b[SERVER_ENTRY_AT..SERVER_ENTRY_AT + ENTRY]),
+        entry: read_entry(array_at::<ENTRY>(b, SERVER_ENTRY_AT)),
     }
 }
 
@@ -118,13 +114,12 @@ pub fn write_server(image: &mut [u8], at: usize, v: Server)
 }
 
 #[tactic(auto, unfolding(crate::specs::Records::server_plain, crate::specs::Lists::part))]
-pub fn server_plain(b: &[u8]) -> bool
-    requires { length b.now ≡ server_width }
+pub fn server_plain(b: &[u8; SERVER]) -> bool
     ensures { result ≡ server_plain b.now }
 {
     b[FAULTY_AT] <= 1
         && are_zero(b, SERVER_SPARE_AT, SERVER_SPARE)
-        && entry_plain(&b[SERVER_ENTRY_AT..SERVER_ENTRY_AT + ENTRY])
+        && entry_plain(array_at::<ENTRY>(b, SERVER_ENTRY_AT))
 }
 
 // "phase u8 (0 idle, 1 reading, 2 writing)", "request u16 (0 when idle)"
@@ -158,14 +153,13 @@ fn untagged_zero(tag: u8, n: u16) -> bool
 
 // "Client: phase u8, kind u8 ..., request u16, entry", and the largest count that it gave.
 #[tactic(auto, unfolding(crate::specs::Records::client_of, crate::specs::Lists::part))]
-pub fn read_client(b: &[u8]) -> Client
-    requires { length b.now ≡ client_width }
+pub fn read_client(b: &[u8; CLIENT]) -> Client
     ensures { result ≡ client_of b.now }
 {
     Client {
         phase: phase_of(b[PHASE_AT], MessageNumber(get16(b, CLIENT_REQUEST_AT))),
         kind: b[CLIENT_KIND_AT],
-        entry: read_entry(&b[CLIENT_ENTRY_AT..CLIENT_ENTRY_AT + ENTRY]),
+        entry: read_entry(array_at::<ENTRY>(b, CLIENT_ENTRY_AT)),
         given: StampCount(get32(b, GIVEN_AT)),
     }
 }
@@ -183,19 +177,17 @@ pub fn write_client(image: &mut [u8], at: usize, v: Client)
 }
 
 #[tactic(auto, unfolding(crate::specs::Records::client_plain, crate::specs::Lists::part))]
-pub fn client_plain(b: &[u8]) -> bool
-    requires { length b.now ≡ client_width }
+pub fn client_plain(b: &[u8; CLIENT]) -> bool
     ensures { result ≡ client_plain b.now }
 {
     b[PHASE_AT] <= LAST_PHASE
         && untagged_zero(b[PHASE_AT], get16(b, CLIENT_REQUEST_AT))
-        && entry_plain(&b[CLIENT_ENTRY_AT..CLIENT_ENTRY_AT + ENTRY])
+        && entry_plain(array_at::<ENTRY>(b, CLIENT_ENTRY_AT))
 }
 
 // "Message: kind u8 ..., sender u8 ..., view u8 ..., taken u8 (0 or 1) and request u16 ..., next u16 ..., entry"
 #[tactic(auto, unfolding(crate::specs::Records::message_of, crate::specs::Lists::part))]
-pub fn read_message(b: &[u8]) -> Message
-    requires { length b.now ≡ message_width }
+pub fn read_message(b: &[u8; MESSAGE]) -> Message
     ensures { result ≡ message_of b.now }
 {
     Message {
@@ -205,7 +197,7 @@ pub fn read_message(b: &[u8]) -> Message
         taken: b[TAKEN_AT] != 0,
         request: MessageNumber(get16(b, MESSAGE_REQUEST_AT)),
         next: MessageNumber(get16(b, NEXT_AT)),
-        entry: read_entry(&b[MESSAGE_ENTRY_AT..MESSAGE_ENTRY_AT + ENTRY]),
+        entry: read_entry(array_at::<ENTRY>(b, MESSAGE_ENTRY_AT)),
     }
 }
 
@@ -224,11 +216,10 @@ pub fn write_message(image: &mut [u8], at: usize, v: Message)
 }
 
 #[tactic(auto, unfolding(crate::specs::Records::message_plain, crate::specs::Lists::part))]
-pub fn message_plain(b: &[u8]) -> bool
-    requires { length b.now ≡ message_width }
+pub fn message_plain(b: &[u8; MESSAGE]) -> bool
     ensures { result ≡ message_plain b.now }
 {
-    b[TAKEN_AT] <= 1 && entry_plain(&b[MESSAGE_ENTRY_AT..MESSAGE_ENTRY_AT + ENTRY])
+    b[TAKEN_AT] <= 1 && entry_plain(array_at::<ENTRY>(b, MESSAGE_ENTRY_AT))
 }
 
 // "ending u8 (0 or 1), END number u16 (0 unless ending)"
@@ -240,8 +231,7 @@ fn ending_of(tag: u8, end: MessageNumber) -> Option<MessageNumber>
 }
 
 #[tactic(auto, unfolding(crate::specs::Records::administrator_of))]
-pub fn read_administrator(b: &[u8]) -> Administrator
-    requires { length b.now ≡ administrator_width }
+pub fn read_administrator(b: &[u8; ADMINISTRATOR]) -> Administrator
     ensures { result ≡ administrator_of b.now }
 {
     Administrator {
@@ -261,8 +251,7 @@ pub fn write_administrator(image: &mut [u8], at: usize, v: Administrator)
 }
 
 #[tactic(auto, unfolding(crate::specs::Records::administrator_plain))]
-pub fn administrator_plain(b: &[u8]) -> bool
-    requires { length b.now ≡ administrator_width }
+pub fn administrator_plain(b: &[u8; ADMINISTRATOR]) -> bool
     ensures { result ≡ administrator_plain b.now }
 {
     b[ENDING_AT] <= 1 && untagged_zero(b[ENDING_AT], get16(b, END_AT))
@@ -270,19 +259,17 @@ pub fn administrator_plain(b: &[u8]) -> bool
 
 // "Header: version u16, messages used u16, ..., 8 zero bytes."
 #[tactic(auto, unfolding(crate::specs::Records::header_plain, crate::specs::Lists::part))]
-pub fn header_plain(b: &[u8]) -> bool
-    requires { length b.now ≡ header_width }
+pub fn header_plain(b: &[u8; HEADER]) -> bool
     ensures { result ≡ header_plain b.now }
 {
     get16(b, VERSION_AT) == VERSION
-        && administrator_plain(&b[ADMINISTRATOR_AT..ADMINISTRATOR_AT + ADMINISTRATOR])
+        && administrator_plain(array_at::<ADMINISTRATOR>(b, ADMINISTRATOR_AT))
         && are_zero(b, HEADER_SPARE_AT, HEADER_SPARE)
 }
 
 // "Step, 12 bytes: kind u8, who u8, view u8, f u8, message u16, source u16, value u32."
 #[tactic(auto, unfolding(protocol::specs::Runs::step_of))]
-pub fn read_step(b: &[u8]) -> Step
-    requires { length b.now ≡ step_width }
+pub fn read_step(b: &[u8; STEP]) -> Step
     ensures { result ≡ step_of b.now }
 {
     Step {

@@ -15,7 +15,6 @@ use Rattle.protocol.specs.declared.Shown.{Shown}
 use Rattle.protocol.specs.declared.refusals.Refusal.{Refusal}
 use Rattle.protocol.specs.declared.refusals.Refusal.TheVariants.{NoMessage, FaultState}
 use Rattle.protocol.specs.Refusals.{outcome, code, refusal_number, refusal_some}
-use Rattle.protocol.specs.declared.View.{View}
 use Rattle.protocol.specs.Tools.{if, bit, within, holds, bit_of, nth, Result, refused, done, guard, then, number_of, passed}
 use Rattle.protocol.specs.Sizes.{servers, views, messages}
 use Rattle.protocol.specs.Entries.{empty}
@@ -28,13 +27,13 @@ use Rattle.protocol.proofs.Laws.Bits.{holds_none, holds_or, holds_bit_of}
 use Rattle.values.specs.Bits.{bit_in, bit_in_lem}
 use Rattle.readable.specs.Tests.{if_true, if_false}
 use Rattle.key_holders.specs.Counts.{bit_or_lem}
-use Rattle.codec.specs.Places.{used_at, view_at, server_at, message_at, put_server}
+use Rattle.codec.specs.Places.{used_at, server_at, message_at, put_server}
 use Rattle.codec.specs.Images.{encode, decode}
 use Rattle.server_rules.specs.Servers.{serve_in, serve_in_lem, entering, replying, accepting, serve_done}
 use Rattle.preservation.proofs.Updates.{present_is}
 use Rattle.preservation.proofs.Kept.{mailed}
 use Rattle.mail.specs.Images.{Legible, Does, put_sent, number_left}
-use Rattle.mail.specs.Stored.{refuses, does, whole, used_is, view_is, server_is, message_is, image_of, with_sent, room_yes, room_no, numbered, unnumbered}
+use Rattle.mail.specs.Stored.{refuses, does, whole, used_is, server_is, message_is, image_of, with_sent, room_yes, room_no, numbered, unnumbered}
 use Rattle.deliveries.specs.Holders.{raised, gained, gained_key, gained_none, server_kept, server_raised}
 
 kept_used : (w : World) (s : ℕ) (b : Server) (u : ℕ) → u ≡ w.used → u + 1 ≡ (with_server w s b).used + 1
@@ -124,6 +123,11 @@ key_gained keys t u h n =
     (bit_or_lem (holds keys u) (holds (bit_of t) u)
     (λ e. by_test (holds (bit_of t) u) (λ q. clash (rw (sym (holds_bit_of t u q)) e) n) (λ q. q)))
 
+-- view 0 has no members
+pub member_none : (w : World) (t s : ℕ) → t ≡ 0 → false ≡ member w t s
+unfolding member view nth
+member_none w t s e = rw e (sym (holds_none s))
+
 module _ {l : List ℕ} (h : Legible l) where
   abbrev w : World
   w = decode l
@@ -142,15 +146,6 @@ module _ {l : List ℕ} (h : Legible l) where
   pub tag_low : (n : ℕ) (m : Message) → m ≡ message_at l n → present w n ≡ true → m.view.0 ≤ views
   tag_low n m p e = rw (p ∙ message_is h n (sent_low n e)) (view_low n e)
 
-  -- a server in the set of a view
-  pub member_none : (t s : ℕ) → t ≡ 0 → false ≡ member w t s
-  unfolding member view nth
-  member_none t s e = rw e (sym (holds_none s))
-
-  pub member_is : (t s : ℕ) (v : View) → 1 ≤ t → t ≤ views → v ≡ view_at l t → holds v.members.0 s ≡ member w t s
-  unfolding member
-  member_is t s v a b p = ap (λ (x : View). holds x.members.0 s) (p ∙ view_is h t a b)
-
   -- the source of a false answer
   pub source_none : (n : ℕ) → n ≡ 0 → true ≡ source? w n
   unfolding source?
@@ -163,12 +158,6 @@ module _ {l : List ℕ} (h : Legible l) where
   pub source_is : (n : ℕ) (m : Message) → (n ≡ 0 → ⊥) → present w n ≡ true → m ≡ message_at l n → eqb m.kind 2 ≡ source? w n
   unfolding source?
   source_is n m e f p = rw (ne_eqb n 0 e, f) (ap (λ (x : Message). eqb x.kind 2) (p ∙ message_is h n (sent_low n f)))
-
-  pub shown_none : (n : ℕ) → n ≡ 0 → empty ≡ if (eqb n 0) empty (message w n).entry
-  shown_none n e = rw (eq-eqb n 0 e) refl
-
-  pub shown_is : (n : ℕ) (m : Message) → (n ≡ 0 → ⊥) → n ≤ messages → m ≡ message_at l n → m.entry ≡ if (eqb n 0) empty (message w n).entry
-  shown_is n m e f p = rw (ne_eqb n 0 e) (ap (λ (x : Message). x.entry) (p ∙ message_is h n f))
 
   -- ---- fault
 

@@ -15,11 +15,10 @@ use Rattle.protocol.specs.Tools.{if, bit, holds, nth, replace}
 use Rattle.protocol.specs.Sizes.{servers, views}
 use Rattle.protocol.specs.Worlds.{World, server, bad, with_server}
 use Rattle.protocol.proofs.Laws.Worlds.{length_replace, nth_same, nth_other, server_same, server_other}
-use Rattle.codec.specs.Layout.{image_size}
 use Rattle.codec.specs.Lists.{list_to_nth}
 use Rattle.codec.specs.Places.{holder_at, put_holder, put_server}
 use Rattle.codec.specs.Images.{holders, holder_list, image_with, encode, decode}
-use Rattle.codec.specs.Laws.{Full, full_server, length_image, holder_image, put_holder_lem, put_server_lem, length_holder_list, nth_holder_list}
+use Rattle.codec.specs.Laws.{Full, full_server, holder_image, put_holder_lem, put_server_lem, length_holder_list, nth_holder_list}
 use Rattle.values.specs.Bits.{bit_in}
 use Rattle.key_holders.specs.Counts.{count_but}
 use Rattle.key_holders.specs.Holders.{holders_low}
@@ -93,11 +92,6 @@ module _ {l : List ℕ} (h : Legible l) (keys n : ℕ) (b : n ≤ views) where
   raised_is =
       ap (λ (i : List ℕ). raised i keys n) (image_of h).is
       ∙ raised_image (decode l) (holder_list (decode l)) (image_of h).full (length_holder_list (decode l)) keys n b
-
-  pub raised_size : length (raised l keys n) ≡ image_size
-  raised_size =
-      ap length raised_is
-      ∙ length_image (decode l) (more (holder_list (decode l)) keys n) (image_of h).full (length_more (holder_list (decode l)) keys n ∙ length_holder_list (decode l))
 
   -- the number that is raised next
   pub raised_low : n < views → holder_at (raised l keys n) (n + 1) ≤ servers

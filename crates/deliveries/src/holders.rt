@@ -1,17 +1,20 @@
 // The bytes that count the faulty key holders of each view, kept along with the servers' records.
+// That the image is readable is asked, not held by a struct: behind `&mut` its field would have to be proved again at each
+// return.
 ghost use Rattle.std.specs.Prelude.{◌≡◌, ◌≤◌};
 ghost use Rattle.protocol.specs.Sizes.{servers, views};
 ghost use Rattle.codec.specs.Places.{put_server};
 ghost use Rattle.mail.specs.Images.{Legible};
 ghost use Rattle.deliveries.specs.Holders.{raised, gained};
 
+use codec::layout::Image;
 use codec::places::{load_holders, store_holders, store_server};
 use protocol::limits::VIEWS;
 use protocol::{KeySet, Server, ServerNumber, ViewNumber};
 use values::sets::{alone, has};
 
 // One more faulty server holds each of these keys.
-pub fn raise(image: &mut [u8], keys: KeySet)
+pub fn raise(image: &mut Image, keys: KeySet)
     requires { Legible image.old }
     ensures { image.new ≡ raised image.old keys.0 views }
 {
@@ -24,7 +27,7 @@ pub fn raise(image: &mut [u8], keys: KeySet)
 }
 
 // Server s is b after START of view t. A faulty one holds that key from now on.
-pub fn keep_started(image: &mut [u8], s: ServerNumber, b: Server, t: ViewNumber)
+pub fn keep_started(image: &mut Image, s: ServerNumber, b: Server, t: ViewNumber)
     requires { Legible image.old × (1 ≤ s.0) × (s.0 ≤ servers) }
     ensures { image.new ≡ put_server (gained image.old b t.0) s.0 b }
 {

@@ -1,4 +1,7 @@
 // A message reaches a server, a server turns faulty, a faulty server answers.
+// That the image is readable is asked, not held by a struct: behind `&mut` its field would have to be proved again at each
+// return.
+// A number in range stays a number: a type for it would be made and taken apart at each call, with the same goal.
 ghost use Rattle.std.specs.Prelude.{false, ◌≡◌, ◌≤◌, eqb, Some};
 ghost use Rattle.protocol.specs.Tools.{if};
 ghost use Rattle.protocol.specs.Sizes.{servers, views, messages};
@@ -10,6 +13,7 @@ ghost use Rattle.codec.specs.Images.{decode};
 ghost use Rattle.mail.specs.Images.{Legible, Does};
 
 use super::holders::{keep_started, raise};
+use codec::layout::Image;
 use codec::places::{load_message, load_server, load_view, store_server};
 use mail::{Stepped, answer, next_number, present, send};
 use protocol::{
@@ -19,15 +23,16 @@ use server_rules::{may_answer, serve};
 use values::sets::has;
 
 // Server s is in N(t).
-fn is_member(image: &[u8], t: ViewNumber, s: ServerNumber) -> bool
-    requires { Legible image.now × (t.0 ≤ views) }
+#[tactic(auto, using(codec::specs::Laws::view_decode, crate::specs::Delivers::member_none), unfolding(protocol::specs::Worlds::member))]
+fn is_member(image: &Image, t: ViewNumber, s: ServerNumber) -> bool
+    requires { t.0 ≤ views }
     ensures { result ≡ member_of (decode image.now) t.0 s.0 }
 {
     t.0 != 0 && has(load_view(image, t).members, s)
 }
 
 // A correct server's record is kept and its answer sent: 10 where no number is left.
-fn reply(image: &mut [u8], s: ServerNumber, n: MessageNumber, b: Server, x: Shown) -> Stepped
+fn reply(image: &mut Image, s: ServerNumber, n: MessageNumber, b: Server, x: Shown) -> Stepped
     requires { Legible image.old × (1 ≤ s.0) × (s.0 ≤ servers) × ((server_at image.old s.0).faulty ≡ false) × (b.faulty ≡ false) }
     ensures { Does result image.old image.new (answers_on (Some x) (decode image.old) s.0 n.0 b) }
 {
@@ -38,7 +43,7 @@ fn reply(image: &mut [u8], s: ServerNumber, n: MessageNumber, b: Server, x: Show
 }
 
 // "Deliver: 5, no such message or an answer; 6 ...; 7, the server's rule does not apply; 10"
-pub fn deliver(image: &mut [u8], s: ServerNumber, n: MessageNumber) -> Stepped
+pub fn deliver(image: &mut Image, s: ServerNumber, n: MessageNumber) -> Stepped
     requires { Legible image.old × (1 ≤ s.0) × (s.0 ≤ servers) }
     ensures { Does result image.old image.new (deliver_on (decode image.old) s.0 n.0) }
 {
@@ -56,7 +61,7 @@ pub fn deliver(image: &mut [u8], s: ServerNumber, n: MessageNumber) -> Stepped
 }
 
 // "Fault: 6, faulty already." It counts against every view whose key it holds.
-pub fn fault(image: &mut [u8], s: ServerNumber) -> Stepped
+pub fn fault(image: &mut Image, s: ServerNumber) -> Stepped
     requires { Legible image.old × (1 ≤ s.0) × (s.0 ≤ servers) }
     ensures { Does result image.old image.new (fault_on (decode image.old) s.0) }
 {
@@ -70,7 +75,7 @@ pub fn fault(image: &mut [u8], s: ServerNumber) -> Stepped
 }
 
 // The entry shown is the empty one, or that of a WRITE sent.
-fn is_source(image: &[u8], n: MessageNumber) -> bool
+fn is_source(image: &Image, n: MessageNumber) -> bool
     requires { Legible image.now }
     ensures { result ≡ is_source (decode image.now) n.0 }
 {
@@ -78,8 +83,9 @@ fn is_source(image: &[u8], n: MessageNumber) -> bool
 }
 
 // The empty entry, or that of the message n.
-fn shown_entry(image: &[u8], n: MessageNumber) -> Entry
-    requires { Legible image.now × (n.0 ≤ messages) }
+#[tactic(auto, using(codec::specs::Laws::message_decode))]
+fn shown_entry(image: &Image, n: MessageNumber) -> Entry
+    requires { n.0 ≤ messages }
     ensures { result ≡ if (eqb n.0 0) empty (message (decode image.now) n.0).entry }
 {
     if n.0 == 0 {
@@ -91,7 +97,7 @@ fn shown_entry(image: &[u8], n: MessageNumber) -> Entry
 
 // "False answer: 5, message not of kind 1 to 3, or source neither 0 nor a WRITE; 6, server not faulty; 9, it lacks that key; 10."
 pub fn false_answer(
-    image: &mut [u8],
+    image: &mut Image,
     s: ServerNumber,
     t: ViewNumber,
     n: MessageNumber,

@@ -1,14 +1,14 @@
 // The fresh world.
-ghost use Rattle.std.specs.Prelude.{◌≡◌, ◌≤◌, length};
+// A number in range stays a number: a type for it would be made and taken apart at each call, with the same goal.
+ghost use Rattle.std.specs.Prelude.{◌≡◌, ◌≤◌};
 ghost use Rattle.protocol.specs.Refusals.{code};
 ghost use Rattle.protocol.specs.Sizes.{servers};
 ghost use Rattle.protocol.specs.Worlds.{fresh_server, fresh_world};
-ghost use Rattle.codec.specs.Layout.{image_size};
 ghost use Rattle.codec.specs.Images.{encode};
 ghost use Rattle.image.specs.Fresh.{idle_server, seeded, fresh_on};
 
 use codec::bytes::{clear, put16};
-use codec::layout::{IMAGE, VERSION, VERSION_AT};
+use codec::layout::{Image, VERSION, VERSION_AT};
 use codec::places::{store_administrator, store_server, store_view};
 use protocol::limits::SERVERS;
 use protocol::{
@@ -40,8 +40,7 @@ fn fresh_server(members: ServerSet, s: ServerNumber) -> Server
     }
 }
 
-fn store_servers(image: &mut [u8], members: ServerSet)
-    requires { length image.old ≡ image_size }
+fn store_servers(image: &mut Image, members: ServerSet)
     ensures { image.new ≡ seeded image.old members.0 servers }
 {
     for s in 1..=SERVERS {
@@ -52,8 +51,7 @@ fn store_servers(image: &mut [u8], members: ServerSet)
 
 // "all else is zero but version and newest view 1"
 #[tactic(auto, using(crate::specs::Fresh::fresh_stored))]
-fn store_fresh(image: &mut [u8], v: View)
-    requires { length image.old ≡ image_size }
+fn store_fresh(image: &mut Image, v: View)
     ensures { image.new ≡ encode (fresh_world v) }
 {
     let a = Administrator {
@@ -72,9 +70,9 @@ fn store_fresh(image: &mut [u8], v: View)
 pub fn fresh(image: &mut [u8], members: u32, f: u8, r: u8) -> Result<(), Refusal>
     ensures { (code result ≡ (fresh_on image.old members f r).refusal) × (image.new ≡ (fresh_on image.old members f r).image) }
 {
-    if image.len() != IMAGE {
+    let Some(image) = image.as_mut_array() else {
         return Err(Refusal::WrongLength);
-    }
+    };
     let v = View {
         members: ServerSet(members),
         f,

@@ -1,13 +1,14 @@
 -- Replays one after another, and the loop of `replay` and `resume`: what their code answers is `replay_on` and `resume_on` of
 -- image/specs/Steps.antt (`Plays`). `rest_stops`: after a stop the rest of a journal stops again; `Going`: what the loop keeps;
 -- `whole_replay`: a replay on a readable image is its world's. Used by the proofs of journal/src and by Rests.antt. Assumes nothing.
-use Rattle.std.specs.Prelude.{ℕ, zero, suc, ◌+◌, ◌*◌, ◌-◌, ◌/◌, ◌%◌, ◌≤◌, ◌<◌, Bool, true, false, ◌≡◌, ◌&&◌, eqb, length, drop, ◌++◌, Option, None, Some, Ok, Err}
-use Rattle.std.proofs.Common.{add-one, arith, sym, subst, ◌∙◌, length-take, length-append, drop-drop, take_all}
-use Rattle.std.proofs.Math.Path.{refl, ap, ap₂}
+use Rattle.std.specs.Simd.{first_chunks}
+use Rattle.std.specs.Prelude.{ℕ, zero, suc, ◌+◌, ◌*◌, ◌-◌, ◌/◌, ◌%◌, ◌≤◌, ◌<◌, true, false, ◌≡◌, eqb, length, get_or, drop, Option, None, Some, Ok, Err}
+use Rattle.std.proofs.Common.{add-one, arith, sym, subst, ◌∙◌, take_all}
+use Rattle.std.proofs.lemmas.List.{drop_more, drop_all}
+use Rattle.std.proofs.Math.Path.{refl, ap}
 use mathlib.Core.List.{List, [], ◌∷◌}
 use Rattle.std.proofs.Math.ListN.{take, length-drop}
-use Rattle.std.proofs.Math.Seq.{take-append_seam, drop-append_seam}
-use borrow.Author.Tests.{eqb-true, eq-eqb, le-leb, lt-leb}
+use borrow.Author.Tests.{eqb-true, eqb-false, eq-eqb, ne_eqb, le-leb, lt-leb}
 use Rattle.protocol.specs.Tools.{if, Result, refused, done, guard}
 use Rattle.protocol.specs.Worlds.{World}
 use Rattle.protocol.specs.Readable.{well_formed}
@@ -20,14 +21,17 @@ use Rattle.preservation.proofs.Kept.{step_kept}
 use Rattle.image.specs.Steps.{left_by, answered, steps_in, steps_of, Played, played, unplayed, replay_on, resume_on}
 use Rattle.journal.specs.declared.Replayed.{Replayed as Answer}
 use Rattle.protocol.specs.declared.refusals.Refusal.{Refusal}
-use Rattle.protocol.specs.declared.refusals.Refusal.TheVariants.{WrongLength}
-use Rattle.protocol.specs.Refusals.{refusal_number, refusal_some, outcome}
+use Rattle.protocol.specs.Refusals.{refusal_number, outcome}
 use Rattle.mail.specs.Images.{Stepped, told, Legible, Does}
 
 -- the refusal that stopped a replay, by its number, or 0
 abbrev pub stopped_by : Option Refusal → ℕ
 stopped_by None = 0
 stopped_by (Some r) = refusal_number r
+
+-- what a replay answers: the steps done, and the refusal that stopped it, if one did
+abbrev pub stopped_at : ℕ → Option Refusal → Answer
+stopped_at n r = record { steps = n; refusal = r }
 
 -- the function answered r and left the image l, as p
 pub record Plays (r : Answer) (l : List ℕ) (p : Played) : Type 0 where
@@ -98,176 +102,124 @@ advanced r l l' b h k d = go (step (decode l) (step_of b)) refl d.image
     go (refused n) e q = subst Legible (sym q) h
     go (done a) e q = spelled a.world (step_kept (decode l) h.formed (step_of b) a e) l' q
 
--- the first n steps of the journal j, which began on the image l₀, were done, and led to the image l
-pub record Going (l₀ j l : List ℕ) (at : ℕ) : Type 0 where
+-- the first n steps bs, which began on the image l₀, were done, and led to the image l
+pub record Going (l₀ : List ℕ) (bs : List (List ℕ)) (l : List ℕ) (n : ℕ) : Type 0 where
   pub legible : Legible l
-  pub whole : length j % step_width ≡ 0
-  pub even : at % step_width ≡ 0
-  pub bound : at ≤ length j
-  pub rest : replay (decode l₀) (steps_of j) ≡ after (at / step_width) (replay (decode l) (steps_of (drop at j)))
+  pub rest : replay (decode l₀) bs ≡ after n (replay (decode l) (drop n bs))
 
-pub going_start : (l j : List ℕ) → Legible l → length j % step_width ≡ 0 → Going l j l 0
-going_start l j h k = record { legible = h; whole = k; even = refl; bound = omega arith; rest = from_none (replay (decode l) (steps_of j)) }
+pub going_start : (l : List ℕ) (bs : List (List ℕ)) → Legible l → Going l bs l 0
+going_start l bs h = record { legible = h; rest = from_none (replay (decode l) bs) }
   where
     from_none : (r : Replayed) → r ≡ after 0 r
     from_none r = let e : r.steps ≡ r.steps + 0 = omega arith in λ i. record { world = r.world; steps = e i; refusal = r.refusal }
 
--- the part of the journal from at on begins with one step
-steps_next : (n : ℕ) (r : List ℕ) → 0 < n → steps_in n r ≡ take step_width r ∷ steps_in (n - 1) (drop step_width r)
-unfolding steps_in
-steps_next zero r h = absurd (omega arith)
-steps_next (suc n) r h = let e : n ≡ suc n - 1 = omega arith in ap (λ (k : ℕ). take step_width r ∷ steps_in k (drop step_width r)) e
-
-module _ (j : List ℕ) (at : ℕ) (whole : length j % step_width ≡ 0) (even : at % step_width ≡ 0) (below : at < length j) where
-  room : step_width ≤ length (drop at j)
-  room = let e = length-drop at j in omega arith
-
-  on : drop step_width (drop at j) ≡ drop (at + step_width) j
-  on = drop-drop step_width at j
-
-  fewer : length (drop at j) / step_width - 1 ≡ length (drop (at + step_width) j) / step_width
-  fewer = let e = length-drop at j in let f = length-drop (at + step_width) j in omega arith
-
-  pub steps_on : steps_of (drop at j) ≡ take step_width (drop at j) ∷ steps_of (drop (at + step_width) j)
-  unfolding steps_of
-  steps_on =
-      steps_next (length (drop at j) / step_width) (drop at j) (let e = length-drop at j in omega arith)
-      ∙ ap₂ (λ (n : ℕ) (r : List ℕ). take step_width (drop at j) ∷ steps_in n r) fewer on
-
-step_whole : (w : World) (b : List ℕ) → length b ≡ step_width → step_bytes w b ≡ step w (step_of b)
+pub step_whole : (w : World) (b : List ℕ) → length b ≡ step_width → step_bytes w b ≡ step w (step_of b)
 unfolding step_bytes guard
 step_whole w b e = rw (eq-eqb (length b) step_width e) refl
 
--- the next step of a journal cut into steps: r is the part from at on, x the step, t what is left
-module _ (j x t : List ℕ) {r : List ℕ} (at : ℕ) (p : r ≡ drop at j) (q : r ≡ x ++ t) (n : length x ≡ step_width) where
-  parts : drop at j ≡ x ++ t
-  parts = sym p ∙ q
+-- what follows from the next step
+module _ {l₀ l : List ℕ} {bs : List (List ℕ)} {n : ℕ} (g : Going l₀ bs l n) (below : n < length bs) (twelve : length (get_or bs n []) ≡ step_width) where
+  abbrev b : List ℕ
+  b = get_or bs n []
 
-  pub chunk_below : at < length j
-  chunk_below = omega (arith, length-drop at j, ap (λ (l : List ℕ). length l) parts, length-append x t, n)
+  ahead : replay (decode l₀) bs ≡ after n (replay (decode l) (b ∷ drop (n + 1) bs))
+  ahead = g.rest ∙ ap (λ (x : List (List ℕ)). after n (replay (decode l) x)) (drop_more bs n [] below)
 
-  pub chunk_is : x ≡ take step_width (drop at j)
-  chunk_is = sym (take-append_seam x t) ∙ ap₂ (λ (k : ℕ) (l : List ℕ). take k l) n (sym parts)
-
-  pub chunk_rest : t ≡ drop (at + step_width) j
-  chunk_rest = sym (drop-append_seam x t) ∙ ap₂ (λ (k : ℕ) (l : List ℕ). drop k l) n (sym parts) ∙ drop-drop step_width at j
-
--- less than a step is left
-pub chunk_end : (j : List ℕ) {r : List ℕ} (at : ℕ) → r ≡ drop at j → at ≤ length j → at % step_width ≡ 0 → length j % step_width ≡ 0 → length r < step_width → length j ≤ at
-chunk_end j {r} at p b e w h = omega (arith, length-drop at j, ap (λ (l : List ℕ). length l) p)
-
--- what follows from a step of the part from at on
-module _ {l₀ j l : List ℕ} {at : ℕ} (g : Going l₀ j l at) (below : at < length j) where
-  abbrev pub part : List ℕ
-  part = take step_width (drop at j)
-
-  twelve : length part ≡ step_width
-  twelve = let e = length-take step_width (drop at j) in let h = room j at g.whole g.even below in omega arith
-
-  ahead : replay (decode l₀) (steps_of j) ≡ after (at / step_width) (replay (decode l) (part ∷ steps_of (drop (at + step_width) j)))
-  ahead = g.rest ∙ ap (λ (x : List (List ℕ)). after (at / step_width) (replay (decode l) x)) (steps_on j at g.whole g.even below)
-
-  pub whole_step : step_bytes (decode l) part ≡ step (decode l) (step_of part)
-  whole_step = step_whole (decode l) part twelve
-
-  pub going_stop : (r : Stepped) (y : Refusal) (l' : List ℕ) → r ≡ Err y → Does r l l' (step (decode l) (step_of part)) → (n : ℕ) → n ≡ at / step_width
-      → Plays (record { steps = n; refusal = Some y }) l' (played (replay (decode l₀) (steps_of j)))
-  going_stop r y l' q d n k = go (step (decode l) (step_of part)) refl (ap outcome (sym q) ∙ d.answer) d.image
+  pub going_stop : (r : Stepped) (y : Refusal) (l' : List ℕ) → r ≡ Err y → Does r l l' (step (decode l) (step_of b))
+      → Plays (stopped_at n (Some y)) l' (played (replay (decode l₀) bs))
+  going_stop r y l' q d = go (step (decode l) (step_of b)) refl (ap outcome (sym q) ∙ d.answer) d.image
     where
-      go : (x : Result After) → step (decode l) (step_of part) ≡ x → refused (refusal_number y) ≡ told (answered x) → l' ≡ left_by l x
-          → Plays (record { steps = n; refusal = Some y }) l' (played (replay (decode l₀) (steps_of j)))
+      go : (x : Result After) → step (decode l) (step_of b) ≡ x → refused (refusal_number y) ≡ told (answered x) → l' ≡ left_by l x
+          → Plays (stopped_at n (Some y)) l' (played (replay (decode l₀) bs))
       go (done a) e r i = let z : ◌≡◌ {A = ℕ} 0 1 = cc in absurd (omega arith)
       go (refused m) e r i =
           let same : refusal_number y ≡ m = cc in
-          let all : replay (decode l₀) (steps_of j) ≡ record { world = decode l; steps = 0 + at / step_width; refusal = m } = ahead ∙ ap (after (at / step_width))
-          (replay_refused (decode l) part (steps_of (drop (at + step_width) j)) m (whole_step ∙ e)) in
-          rw all (record { steps = omega (arith, k); refusal = same; image = i ∙ sym g.legible.image })
+          let all : replay (decode l₀) bs ≡ record { world = decode l; steps = 0 + n; refusal = m } = ahead ∙ ap (after n)
+          (replay_refused (decode l) b (drop (n + 1) bs) m (step_whole (decode l) b twelve ∙ e)) in
+          rw all (record { steps = omega arith; refusal = same; image = i ∙ sym g.legible.image })
 
-  pub going_on : (r : Stepped) (c : Option ℕ) (l' : List ℕ) → r ≡ Ok c → Does r l l' (step (decode l) (step_of part)) → Going l₀ j l' (at + step_width)
+  pub going_on : (r : Stepped) (c : Option ℕ) (l' : List ℕ) → r ≡ Ok c → Does r l l' (step (decode l) (step_of b)) → Going l₀ bs l' (n + 1)
   going_on r c l' q d =
       record {
-        legible = next;
-        whole = g.whole;
-        even = (let e = g.even in omega arith);
-        bound = (let e = g.even in let f = g.whole in omega arith);
-        rest = go
-            (step (decode l) (step_of part)) refl (ap outcome (sym q) ∙ d.answer) d.image;
+        legible = advanced r l l' b g.legible twelve d;
+        rest = go (step (decode l) (step_of b)) refl (ap outcome (sym q) ∙ d.answer) d.image;
       }
     where
-      next : Legible l'
-      next = advanced r l l' part g.legible twelve d
+      more : (r : Replayed) → after n (after 1 r) ≡ after (n + 1) r
+      more r = let e : r.steps + 1 + n ≡ r.steps + (n + 1) = omega arith in λ i. record { world = r.world; steps = e i; refusal = r.refusal }
 
-      more : (r : Replayed) → after (at / step_width) (after 1 r) ≡ after ((at + step_width) / step_width) r
-      more r = let e : r.steps + 1 + at / step_width ≡ r.steps + (at + step_width) / step_width = omega arith in λ i. record { world = r.world; steps = e i; refusal = r.refusal }
-
-      go : (x : Result After) → step (decode l) (step_of part) ≡ x → done c ≡ told (answered x) → l' ≡ left_by l x → replay (decode l₀) (steps_of j)
-          ≡ after ((at + step_width) / step_width) (replay (decode l') (steps_of (drop (at + step_width) j)))
+      go : (x : Result After) → step (decode l) (step_of b) ≡ x → done c ≡ told (answered x) → l' ≡ left_by l x
+          → replay (decode l₀) bs ≡ after (n + 1) (replay (decode l') (drop (n + 1) bs))
       go (refused m) e r i = let z : ◌≡◌ {A = ℕ} 0 1 = cc in absurd (omega arith)
       go (done a) e r i =
-          let here : a.world ≡ decode l' = sym (world_decode a.world (step_kept (decode l) g.legible.formed (step_of part) a e)) ∙ ap decode (sym i) in
+          let here : a.world ≡ decode l' = sym (world_decode a.world (step_kept (decode l) g.legible.formed (step_of b) a e)) ∙ ap decode (sym i) in
           ahead
-          ∙ ap (after (at / step_width)) (replay_done (decode l) part (steps_of (drop (at + step_width) j)) a (whole_step ∙ e))
-          ∙ more (replay a.world (steps_of (drop (at + step_width) j)))
-          ∙ ap (λ (w : World). after ((at + step_width) / step_width) (replay w (steps_of (drop (at + step_width) j)))) here
+          ∙ ap (after n) (replay_done (decode l) b (drop (n + 1) bs) a (step_whole (decode l) b twelve ∙ e))
+          ∙ more (replay a.world (drop (n + 1) bs))
+          ∙ ap (λ (w : World). after (n + 1) (replay w (drop (n + 1) bs))) here
 
 -- none is left
-pub steps_none : (j : List ℕ) (at : ℕ) → length j ≤ at → steps_of (drop at j) ≡ []
-unfolding steps_of steps_in
-steps_none j at h = let e : length (drop at j) / step_width ≡ 0 = (let d = length-drop at j in omega arith) in ap (λ (n : ℕ). steps_in n (drop at j)) e
-
-pub going_end : {l₀ j l : List ℕ} {at : ℕ} → Going l₀ j l at → length j ≤ at → (n : ℕ) → n ≡ at / step_width
-    → Plays (record { steps = n; refusal = None }) l (played (replay (decode l₀) (steps_of j)))
-going_end {l₀} {j} {l} {at} g h n k = rw all (record { steps = omega (arith, k); refusal = refl; image = sym g.legible.image })
+pub going_end : {l₀ l : List ℕ} {bs : List (List ℕ)} {n : ℕ} → Going l₀ bs l n → n ≤ length bs → length bs ≤ n → Plays (stopped_at (length bs) None) l (played (replay (decode l₀) bs))
+going_end {l₀} {l} {bs} {n} g h k = rw all (record { steps = omega arith; refusal = refl; image = sym g.legible.image })
   where
-    all : replay (decode l₀) (steps_of j) ≡ record { world = decode l; steps = 0 + at / step_width; refusal = 0 }
-    all = g.rest ∙ ap (λ (x : List (List ℕ)). after (at / step_width) (replay (decode l) x)) (steps_none j at h) ∙ ap (after (at / step_width)) (replay_none (decode l))
+    all : replay (decode l₀) bs ≡ record { world = decode l; steps = 0 + n; refusal = 0 }
+    all = g.rest ∙ ap (λ (x : List (List ℕ)). after n (replay (decode l) x)) (drop_all n bs k) ∙ ap (after n) (replay_none (decode l))
 
 -- ---- any image and any journal
 
--- why a replay does not begin, by number, or 0: "1, journal not a multiple of 12 or image length wrong; 2."
-abbrev pub unplayable : List ℕ → List ℕ → ℕ
-unplayable l j = if (eqb (length l) image_size && eqb (length j % step_width) 0) (if (readable l) 0 2) 1
+-- a replay that did not begin
+pub unbegun : (y : Refusal) (l : List ℕ) {r : Answer} {p : Played} → r ≡ stopped_at 0 (Some y) → p ≡ unplayed l (refusal_number y) → Plays r l p
+unbegun y l q e = rw (q, e) (record { steps = refl; refusal = refl; image = refl })
+
+-- a rest that is not empty
+pub not_whole : {n m : ℕ} → n ≡ m → false ≡ eqb n 0 → m ≡ 0 → ⊥
+not_whole {n} e f z = eqb-false n 0 (sym f) (e ∙ z)
+
+-- whole steps on the bytes of an image: "2"
+abbrev pub replay_steps : List ℕ → List (List ℕ) → Played
+replay_steps l bs = if (readable l) (played (replay (decode l) bs)) (unplayed l 2)
+
+module _ (l : List ℕ) (bs : List (List ℕ)) where
+  pub scanned_steps : readable l ≡ true → replay_steps l bs ≡ played (replay (decode l) bs)
+  scanned_steps e = rw e refl
+
+  pub unscanned_steps : readable l ≡ false → replay_steps l bs ≡ unplayed l 2
+  unscanned_steps e = rw e refl
+
+-- a journal that is cut into steps
+pub chunks_are : (n : ℕ) (j : List ℕ) → first_chunks step_width n j ≡ steps_in n j
+unfolding steps_in
+chunks_are zero j = refl
+chunks_are (suc n) j = ap (λ (r : List (List ℕ)). take step_width j ∷ r) (chunks_are n (drop step_width j))
 
 module _ (l j : List ℕ) where
+  pub wrong_image : (length l ≡ image_size → ⊥) → replay_on l j ≡ unplayed l 1
+  unfolding replay_on
+  wrong_image e = rw (ne_eqb (length l) image_size e) refl
+
+  pub wrong_journal : length l ≡ image_size → (length j % step_width ≡ 0 → ⊥) → replay_on l j ≡ unplayed l 1
+  unfolding replay_on
+  wrong_journal h e = rw (eq-eqb (length l) image_size h, ne_eqb (length j % step_width) 0 e) refl
+
+  pub whole_steps : length l ≡ image_size → length j % step_width ≡ 0 → replay_on l j ≡ replay_steps l (steps_of j)
+  unfolding replay_on
+  whole_steps h k = rw (eq-eqb (length l) image_size h, eq-eqb (length j % step_width) 0 k) refl
+
+  pub whole_chunks : {n : ℕ} {bs : List (List ℕ)} → length l ≡ image_size → n ≡ length j % step_width → true ≡ eqb n 0
+      → bs ≡ first_chunks step_width (length j / step_width) j → replay_on l j ≡ replay_steps l bs
+  unfolding steps_of
+  whole_chunks {n} h e k q =
+      whole_steps h (sym e ∙ eqb-true n 0 (sym k)) ∙ ap (replay_steps l) (sym (q ∙ chunks_are (length j / step_width) j))
+
   pub whole_replay : length l ≡ image_size → length j % step_width ≡ 0 → readable l ≡ true → replay_on l j ≡ played (replay (decode l) (steps_of j))
-  unfolding replay_on
-  whole_replay h k e = rw (eq-eqb (length l) image_size h, eq-eqb (length j % step_width) 0 k, e) refl
-
-  -- a replay that does not begin
-  pub unbegun : (y : Refusal) → refusal_number y ≡ unplayable l j → Plays (record { steps = 0; refusal = Some y }) l (replay_on l j)
-  unfolding replay_on
-  unbegun y = go (eqb (length l) image_size && eqb (length j % step_width) 0) (readable l)
-    where
-      go : (a b : Bool) → refusal_number y ≡ if a (if b 0 2) 1
-          → Plays (record { steps = 0; refusal = Some y }) l (if a (if b (played (replay (decode l) (steps_of j))) (unplayed l 2)) (unplayed l 1))
-      go true true e = absurd (refusal_some y (sym e))
-      go true false e = record { steps = refl; refusal = e; image = refl }
-      go false b e = record { steps = refl; refusal = e; image = refl }
-
-  module _ (e : 0 ≡ unplayable l j) where
-    tests : ((length l ≡ image_size) × (length j % step_width ≡ 0)) × (readable l ≡ true)
-    tests = go (eqb (length l) image_size) (eqb (length j % step_width) 0) (readable l) refl refl refl e
-      where
-        go : (a b c : Bool) → eqb (length l) image_size ≡ a → eqb (length j % step_width) 0 ≡ b → readable l ≡ c → ◌≡◌ {A = ℕ} 0 (if (a && b) (if c 0 2) 1)
-            → ((length l ≡ image_size) × (length j % step_width ≡ 0)) × (readable l ≡ true)
-        go true true true p q r e = ((eqb-true _ _ p, eqb-true _ _ q), r)
-        go true true false p q r e = absurd (omega (arith, e))
-        go true false c p q r e = absurd (omega (arith, e))
-        go false b c p q r e = absurd (omega (arith, e))
-
-    -- a readable image and a journal of whole steps
-    pub begun : Legible l × (length j % step_width ≡ 0)
-    begun = (legible l (read l tests.1), tests.0.1)
-
-    pub begun_replay : replay_on l j ≡ played (replay (decode l) (steps_of j))
-    begun_replay = whole_replay tests.0.0 tests.0.1 tests.1
+  whole_replay h k e = whole_steps h k ∙ rw e refl
 
 -- ---- the rest of a journal
 
 module _ (l j : List ℕ) (n : ℕ) where
-  pub rest_none : length j / step_width < n → Plays (record { steps = 0; refusal = Some WrongLength }) l (resume_on l j n)
+  pub rest_none : length j / step_width < n → resume_on l j n ≡ unplayed l 1
   unfolding resume_on
-  rest_none e = rw (lt-leb n (length j / step_width) e) (record { steps = refl; refusal = refl; image = refl })
+  rest_none e = rw (lt-leb n (length j / step_width) e) refl
 
   pub rest_some : n ≤ length j / step_width → resume_on l j n ≡ replay_on l (drop (n * step_width) j)
   unfolding resume_on

@@ -4,6 +4,9 @@
 pub mod replay;
 pub mod watch;
 
+ghost use Rattle.std.specs.Prelude.{◌≡◌, Some};
+ghost use Rattle.journal.specs.Replays.{stopped_at};
+
 use protocol::Refusal;
 
 // The number of steps done, and the refusal that stopped the replay, if one did.
@@ -11,6 +14,18 @@ use protocol::Refusal;
 pub struct Replayed {
     pub steps: usize,
     pub refusal: Option<Refusal>,
+}
+
+impl Replayed {
+    // A replay that did not begin.
+    fn refused(refusal: Refusal) -> Replayed
+        ensures { result ≡ stopped_at 0 (Some refusal) }
+    {
+        Replayed {
+            steps: 0,
+            refusal: Some(refusal),
+        }
+    }
 }
 
 // A replay, and the first step after which the premise does not hold, if there is one.

@@ -1,63 +1,61 @@
 // Replay: the image is tested once, then each step touches only what it changes.
-ghost use Rattle.std.specs.Prelude.{◌%◌, ◌≡◌, length};
-ghost use Rattle.protocol.specs.Runs.{step_width, replay as replay_of};
-ghost use Rattle.protocol.specs.Refusals.{code};
+// That the image is readable is asked, not held by a struct: tried, each contract then also had to say that the image that comes
+// back is the one lent.
+ghost use Rattle.std.specs.Prelude.{◌≡◌};
+ghost use Rattle.protocol.specs.Runs.{replay as replay_of};
 ghost use Rattle.codec.specs.Images.{decode};
-ghost use Rattle.image.specs.Steps.{played, steps_of, replay_on, resume_on};
+ghost use Rattle.image.specs.Steps.{played, replay_on, resume_on};
 ghost use Rattle.mail.specs.Images.{Legible};
-ghost use Rattle.journal.specs.Replays.{Plays, unplayable};
+ghost use Rattle.journal.specs.Replays.{Plays, replay_steps};
 
 use super::Replayed;
-use codec::layout::{IMAGE, STEP};
+use codec::layout::{Image, STEP};
 use protocol::Refusal;
-use readable::readable::readable;
+use readable::readable::scanned;
 use world::step::advance;
 
-// "1, journal not a multiple of 12 or image length wrong; 2."
-pub fn admits(image: &[u8], journal: &[u8]) -> Result<(), Refusal>
-    ensures { code result ≡ unplayable image.now journal.now }
+// "It stops at the first refused step": on a readable image.
+pub fn play(image: &mut Image, journal: &[[u8; STEP]]) -> Replayed
+    requires { Legible image.old }
+    ensures { Plays result image.new (played (replay_of (decode image.old) journal.now)) }
 {
-    if image.len() != IMAGE || journal.len() % STEP != 0 {
-        return Err(Refusal::WrongLength);
-    }
-    if !readable(image) {
-        return Err(Refusal::Unreadable);
-    }
-    Ok(())
-}
-
-// "It stops at the first refused step": on a readable image, a journal of whole steps.
-pub fn play(image: &mut [u8], journal: &[u8]) -> Replayed
-    requires { Legible image.old × (length journal.now % step_width ≡ 0) }
-    ensures { Plays result image.new (played (replay_of (decode image.old) (steps_of journal.now))) }
-{
-    let mut steps = 0;
-    for step in journal.chunks_exact(STEP) {
+    for (steps, step) in journal.iter().enumerate() {
         if let Err(refusal) = advance(image, step) {
             return Replayed {
                 steps,
                 refusal: Some(refusal),
             };
         }
-        steps += 1;
     }
     Replayed {
-        steps,
+        steps: journal.len(),
         refusal: None,
     }
 }
 
-// "Replay (image, journal)": for every image and every journal.
+// A journal of whole steps on the bytes of an image: "2".
+fn tested(image: &mut Image, journal: &[[u8; STEP]]) -> Replayed
+    ensures { Plays result image.new (replay_steps image.old journal.now) }
+{
+    if scanned(image) {
+        play(image, journal)
+    } else {
+        Replayed::refused(Refusal::Unreadable)
+    }
+}
+
+// "Replay (image, journal)": for every image and every journal. "1, journal not a multiple of 12 or image length wrong; 2."
 pub fn replay(image: &mut [u8], journal: &[u8]) -> Replayed
     ensures { Plays result image.new (replay_on image.old journal.now) }
 {
-    match admits(image, journal) {
-        Ok(()) => play(image, journal),
-        Err(refusal) => Replayed {
-            steps: 0,
-            refusal: Some(refusal),
-        },
+    let Some(image) = image.as_mut_array() else {
+        return Replayed::refused(Refusal::WrongLength);
+    };
+    let (steps, rest) = journal.as_chunks();
+    if !rest.is_empty() {
+        return Replayed::refused(Refusal::WrongLength);
     }
+    tested(image, steps)
 }
 
 // "The rest of the journal after the last accepted step can be replayed": what is left of it after its first steps. 1, it has
@@ -66,10 +64,7 @@ pub fn resume(image: &mut [u8], journal: &[u8], steps: usize) -> Replayed
     ensures { Plays result image.new (resume_on image.old journal.now steps) }
 {
     if journal.len() / STEP < steps {
-        return Replayed {
-            steps: 0,
-            refusal: Some(Refusal::WrongLength),
-        };
+        return Replayed::refused(Refusal::WrongLength);
     }
     replay(image, &journal[steps * STEP..])
 }

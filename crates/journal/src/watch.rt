@@ -1,21 +1,25 @@
 // The second form of replay: the image is tested once, and after each step the premise is read off the bytes that count the faulty
 // key holders and the views' f.
-ghost use Rattle.std.specs.Prelude.{◌%◌, ◌≡◌, length};
-ghost use Rattle.protocol.specs.Runs.{step_width, replay as replay_of};
+// That the image is readable is asked, not held by a struct: tried, each contract then also had to say that the image that comes
+// back is the one lent.
+ghost use Rattle.std.specs.Prelude.{◌≡◌, Some, None};
+ghost use Rattle.protocol.specs.Runs.{replay as replay_of};
 ghost use Rattle.codec.specs.Images.{decode};
-ghost use Rattle.image.specs.Steps.{played, steps_of};
+ghost use Rattle.image.specs.Steps.{played};
 ghost use Rattle.mail.specs.Images.{Legible};
+ghost use Rattle.journal.specs.Replays.{stopped_at};
 ghost use Rattle.journal.specs.Watch.{broken_from, watch_on};
-ghost use Rattle.journal.specs.Watches.{Watches, noticed};
+ghost use Rattle.journal.specs.Watches.{Watches, noticed, watch_steps};
 
-use super::replay::admits;
 use super::{Replayed, Watched};
-use codec::layout::STEP;
+use codec::layout::{Image, STEP};
 use image::premise::premise_holds;
+use protocol::Refusal;
+use readable::readable::scanned;
 use world::step::advance;
 
 // The step named so far; or, where there is none, step n if the premise does not hold after it.
-fn notice(image: &[u8], named: Option<usize>, n: usize) -> Option<usize>
+fn notice(image: &Image, named: Option<usize>, n: usize) -> Option<usize>
     requires { Legible image.now }
     ensures { result ≡ noticed (decode image.now) named n }
 {
@@ -26,15 +30,14 @@ fn notice(image: &[u8], named: Option<usize>, n: usize) -> Option<usize>
     }
 }
 
-// "beside a stop too": on a readable image, a journal of whole steps.
-fn observe(image: &mut [u8], journal: &[u8]) -> Watched
-    requires { Legible image.old × (length journal.now % step_width ≡ 0) }
+// "beside a stop too": on a readable image.
+fn observe(image: &mut Image, journal: &[[u8; STEP]]) -> Watched
+    requires { Legible image.old }
     ensures { Watches result image.new
-        (record { played = played (replay_of (decode image.old) (steps_of journal.now)); first = broken_from 0 (decode image.old) (steps_of journal.now) }) }
+        (record { played = played (replay_of (decode image.old) journal.now); first = broken_from 0 (decode image.old) journal.now }) }
 {
-    let mut steps = 0;
     let mut first = None;
-    for step in journal.chunks_exact(STEP) {
+    for (steps, step) in journal.iter().enumerate() {
         if let Err(refusal) = advance(image, step) {
             let replayed = Replayed {
                 steps,
@@ -42,14 +45,34 @@ fn observe(image: &mut [u8], journal: &[u8]) -> Watched
             };
             return Watched { replayed, first };
         }
-        steps += 1;
-        first = notice(image, first, steps);
+        first = notice(image, first, steps + 1);
     }
     let replayed = Replayed {
-        steps,
+        steps: journal.len(),
         refusal: None,
     };
     Watched { replayed, first }
+}
+
+// A replay that did not begin names no step.
+fn refused(refusal: Refusal) -> Watched
+    ensures { result ≡ record { replayed = stopped_at 0 (Some refusal); first = None } }
+{
+    Watched {
+        replayed: Replayed::refused(refusal),
+        first: None,
+    }
+}
+
+// A journal of whole steps on the bytes of an image.
+fn tested(image: &mut Image, journal: &[[u8; STEP]]) -> Watched
+    ensures { Watches result image.new (watch_steps image.old journal.now) }
+{
+    if scanned(image) {
+        observe(image, journal)
+    } else {
+        refused(Refusal::Unreadable)
+    }
 }
 
 // "A second form of replay also names, beside a stop too, the first accepted step after which the premise does not hold, or 0.": for
@@ -57,17 +80,12 @@ fn observe(image: &mut [u8], journal: &[u8]) -> Watched
 pub fn watch(image: &mut [u8], journal: &[u8]) -> Watched
     ensures { Watches result image.new (watch_on image.old journal.now) }
 {
-    match admits(image, journal) {
-        Ok(()) => observe(image, journal),
-        Err(refusal) => {
-            let replayed = Replayed {
-                steps: 0,
-                refusal: Some(refusal),
-            };
-            Watched {
-                replayed,
-                first: None,
-            }
-        }
+    let Some(image) = image.as_mut_array() else {
+        return refused(Refusal::WrongLength);
+    };
+    let (steps, rest) = journal.as_chunks();
+    if !rest.is_empty() {
+        return refused(Refusal::WrongLength);
     }
+    tested(image, steps)
 }

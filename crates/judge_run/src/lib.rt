@@ -6,7 +6,7 @@ pub mod text;
 use codec::bytes::get16;
 use judging::judge::{PLACE, judge};
 use judging::log::{LOG_LINE, LOG_LINES};
-use lines::{Line, done_line};
+use lines::done_line;
 use std::io::Write;
 use streams::{read_full, write_all};
 use text::place_line;
@@ -16,26 +16,23 @@ const LOG_ROOM: usize = LOG_LINE * (LOG_LINES + 1);
 
 const ORDER_ROOM: usize = PLACE * (LOG_LINES + 1);
 
-fn print<W: Write>(output: &mut W, line: &Line) {
-    write_all(output, line.as_str().as_bytes());
-}
-
 // A line for each operation of an order.
 fn show<W: Write>(output: &mut W, log: &[u8], order: &[u8]) {
     for place in order.chunks_exact(PLACE) {
-        print(output, &place_line(log, get16(place, 0)));
+        write_all(output, place_line(log, get16(place, 0)).as_str().as_bytes());
     }
 }
 
 // The lines of a log's judgement, with an order buffer of its own.
 fn settle<W: Write>(output: &mut W, log: &[u8], order: &mut [u8]) {
-    match judge(log, order) {
+    let done = match judge(log, order) {
         Ok(operations) => {
             show(output, log, order);
-            print(output, &done_line(operations as u64, 0));
+            done_line(operations as u64, 0)
         }
-        Err(refusal) => print(output, &done_line(0, refusal.number())),
-    }
+        Err(refusal) => done_line(0, refusal.number()),
+    };
+    write_all(output, done.as_str().as_bytes());
 }
 
 // The whole program.

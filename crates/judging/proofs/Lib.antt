@@ -8,4 +8,3 @@ pub mod Examples
 pub mod Ranges
 pub mod Sorting
 pub mod Walks
-pub mod Answering

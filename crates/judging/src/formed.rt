@@ -1,21 +1,15 @@
 // "14, malformed": a function for each clause.
-ghost use Rattle.std.specs.Prelude.{◌≡◌, ◌&&◌, ◌+◌, ◌≤◌, length};
-ghost use Rattle.judging.specs.Logs.{line_width, lines_of, line_bytes, most_lines};
-ghost use Rattle.judging.specs.Logs.{spare, in_values, ends_later, counted, numbers_apart, stamps_apart, line_fits, apart_before, lines_fit, well_logged};
+// A number in range stays a number: a type for it would be made and taken apart at each call, with the same goal.
+ghost use Rattle.std.specs.Prelude.{◌≡◌, ◌&&◌, ◌≤◌};
+ghost use Rattle.judging.specs.Logs.{lines_of, line_bytes, most_lines};
+ghost use Rattle.judging.specs.Logs.{in_values, ends_later, counted, numbers_apart, stamps_apart, line_fits, apart_before, lines_fit, well_logged};
 
 use super::Logged;
-use super::log::{LOG_LINE, LOG_LINES, line, line_bytes, read_logged};
+use super::log::{ENTRY_AT, LOG_LINE, LOG_LINES, SPARE, SPARE_AT, line, line_bytes, read_logged};
+use codec::bytes::are_zero;
+use codec::layout::{ENTRY_SPARE, ENTRY_SPARE_AT};
 use protocol::Operation;
 use values::entries::entry_fits;
-
-// Three spare bytes are zero.
-#[tactic(auto, unfolding(crate::specs::Logs::spare))]
-fn spare(b: &[u8], at: usize) -> bool
-    requires { at + 3 ≤ length b.now }
-    ensures { result ≡ spare b.now at }
-{
-    b[at] == 0 && b[at + 1] == 0 && b[at + 2] == 0
-}
 
 // "a field outside its values"
 #[tactic(auto, unfolding(crate::specs::Logs::in_values))]
@@ -60,13 +54,16 @@ fn stamps_apart(x: Logged, y: Logged) -> bool
 }
 
 // The clauses that ask of one line.
-#[tactic(auto, unfolding(crate::specs::Logs::line_fits))]
-fn line_fits(b: &[u8]) -> bool
-    requires { length b.now ≡ line_width }
+#[tactic(auto, unfolding(crate::specs::Logs::line_fits, crate::specs::Logs::spare, codec::specs::Bytes::zeros))]
+fn line_fits(b: &[u8; LOG_LINE]) -> bool
     ensures { result ≡ line_fits b.now }
 {
     let x = read_logged(b);
-    spare(b, 5) && spare(b, 13) && in_values(x) && ends_later(x) && counted(x)
+    are_zero(b, SPARE_AT, SPARE)
+        && are_zero(b, ENTRY_AT + ENTRY_SPARE_AT, ENTRY_SPARE)
+        && in_values(x)
+        && ends_later(x)
+        && counted(x)
 }
 
 // The clauses that ask of two lines: line i beside each line before it.

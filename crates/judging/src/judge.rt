@@ -1,4 +1,4 @@
-// The judgement of a log, with its order in a lent buffer.
+// The judgement of a log, with its order in a lent buffer. The buffer is as long as the log has lines, so it stays a slice.
 ghost use Rattle.std.specs.Prelude.{◌≡◌, ◌*◌, ◌≤◌, length};
 ghost use Rattle.protocol.specs.Refusals.{outcome};
 ghost use Rattle.judging.specs.Logs.{lines_of, most_lines};
@@ -26,6 +26,7 @@ fn list(order: &mut [u8], lines: &[u16])
 }
 
 // A well-formed log and an order buffer of the right length.
+#[tactic(auto, using(crate::proofs::Sorting::sorted_numbers), unfolding(crate::specs::Verdict::decided, crate::specs::Decision::passes, protocol::specs::Tools::guard))]
 fn decide(log: &[u8], order: &mut [u8]) -> Result<u16, Refusal>
     requires { (lines_of log.now ≤ most_lines) × (length order.old ≡ place_width * lines_of log.now) }
     ensures { Judges result order.old order.new (decided log.now) }
@@ -40,6 +41,7 @@ fn decide(log: &[u8], order: &mut [u8]) -> Result<u16, Refusal>
 }
 
 // For every log and every buffer; what it means is proved of the whole answer, by `judge`.
+#[tactic(auto, unfolding(crate::specs::Verdict::judged, crate::specs::Logs::well_logged, protocol::specs::Tools::guard))]
 fn answer(log: &[u8], order: &mut [u8]) -> Result<u16, Refusal>
     ensures { Judges result order.old order.new (judged log.now (length order.old)) }
 {

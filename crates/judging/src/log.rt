@@ -1,43 +1,50 @@
 // The lines of a log as lent bytes.
-ghost use Rattle.std.specs.Prelude.{◌≡◌, ◌≤◌, length};
-ghost use Rattle.judging.specs.Logs.{line_width, lines_of, logged_of, line_bytes, line_at};
+// A number in range stays a number: a type for it would be made and taken apart at each call, with the same goal.
+ghost use Rattle.std.specs.Prelude.{◌≡◌, ◌≤◌};
+ghost use Rattle.judging.specs.Logs.{lines_of, logged_of, line_bytes, line_at};
 
 use super::Logged;
-use codec::bytes::get16;
-use codec::layout::ENTRY;
+use codec::bytes::{array_at, get16};
+use codec::layout::{ENTRY, U8, U16};
 use codec::records::read_entry;
 
-// "begin number (u16 ...), end number (u16 ...), kind (1 write, 2 read), entry"
-pub const LOG_LINE: usize = 20;
+// "begin number (u16 ...), end number (u16 ...), kind (1 write, 2 read), entry": 3 zero bytes stand before the entry.
+const BEGIN_AT: usize = 0;
+
+const END_AT: usize = BEGIN_AT + U16;
+
+const KIND_AT: usize = END_AT + U16;
+
+pub const SPARE_AT: usize = KIND_AT + U8;
+
+pub const SPARE: usize = 3;
+
+pub const ENTRY_AT: usize = SPARE_AT + SPARE;
+
+pub const LOG_LINE: usize = ENTRY_AT + ENTRY;
 
 // "A log has at most 256 operations"
 pub const LOG_LINES: usize = 256;
 
-// Where the entry of a line begins.
-const ENTRY_AT: usize = 8;
-
-#[tactic(auto, unfolding(crate::specs::Logs::logged_of, codec::specs::Lists::part))]
-pub fn read_logged(b: &[u8]) -> Logged
-    requires { length b.now ≡ line_width }
+#[tactic(auto, unfolding(crate::specs::Logs::logged_of))]
+pub fn read_logged(b: &[u8; LOG_LINE]) -> Logged
     ensures { result ≡ logged_of b.now }
 {
     Logged {
-        begin: get16(b, 0),
-        end: get16(b, 2),
-        kind: b[4],
-        entry: read_entry(&b[ENTRY_AT..ENTRY_AT + ENTRY]),
+        begin: get16(b, BEGIN_AT),
+        end: get16(b, END_AT),
+        kind: b[KIND_AT],
+        entry: read_entry(array_at(b, ENTRY_AT)),
     }
 }
 
 // The bytes of line i of a log, the first being line 1.
-#[tactic(auto, using(codec::specs::Lists::span), unfolding(crate::specs::Logs::line_bytes))]
-pub fn line_bytes(log: &[u8], i: u16) -> &[u8]
+#[tactic(auto, unfolding(crate::specs::Logs::line_bytes))]
+pub fn line_bytes(log: &[u8], i: u16) -> &[u8; LOG_LINE]
     requires { (1 ≤ i) × (i ≤ lines_of log.now) }
-    ensures bytes { result.now ≡ line_bytes log.now i }
-    ensures width { length result.now ≡ line_width }
+    ensures { result.now ≡ line_bytes log.now i }
 {
-    let at = LOG_LINE * (i as usize - 1);
-    &log[at..at + LOG_LINE]
+    array_at(log, LOG_LINE * (i as usize - 1))
 }
 
 #[tactic(auto, unfolding(crate::specs::Logs::line_at, crate::specs::Logs::line_bytes))]

@@ -1,16 +1,17 @@
-// The faulty key holders of each view: the full count, and the bytes that keep it. Ranges are `1..n + 1`: over `1..=n` a chain asks in each
-// turn whether the last number has come, and the readable test takes 1.1 times as long.
+// The faulty key holders of each view: the full count, and the bytes that keep it. Ranges are `1..n + 1`: over `1..=n` a chain
+// asks in each turn whether the last number has come, and the readable test takes 1.1 times as long.
+// A number in range stays a number: a type for it would be made and taken apart at each call, with the same goal.
 #![tactic(auto)]
 
-ghost use Rattle.std.specs.Prelude.{true, ◌≡◌, ◌≤◌, length};
-ghost use Rattle.protocol.specs.Tools.{bit, count_to, all_to};
+ghost use Rattle.std.specs.Prelude.{◌≡◌, ◌≤◌};
+ghost use Rattle.protocol.specs.Tools.{count_to, all_to};
 ghost use Rattle.protocol.specs.Sizes.{servers, views};
 ghost use Rattle.protocol.specs.Worlds.{bad};
-ghost use Rattle.codec.specs.Layout.{image_size};
 ghost use Rattle.codec.specs.Places.{administrator_at};
 ghost use Rattle.codec.specs.Images.{holders, decode};
 ghost use Rattle.key_holders.specs.Holders.{holder_ok, Served};
 
+use codec::layout::Image;
 use codec::places::{load_holders, load_server};
 use protocol::limits::{SERVERS, VIEWS};
 use protocol::{ServerNumber, ViewNumber};
@@ -18,16 +19,16 @@ use values::sets::has;
 
 // "a faulty server counts against view t as long as it holds key t"
 #[tactic(auto, using(codec::specs::Laws::server_decode), unfolding(protocol::specs::Worlds::bad))]
-fn bad_server(image: &[u8], t: ViewNumber, s: ServerNumber) -> bool
-    requires { (length image.now ≡ image_size) × (1 ≤ t.0) × (t.0 ≤ views) × (1 ≤ s.0) × (s.0 ≤ servers) }
+fn bad_server(image: &Image, t: ViewNumber, s: ServerNumber) -> bool
+    requires { (1 ≤ t.0) × (t.0 ≤ views) × (1 ≤ s.0) × (s.0 ≤ servers) }
     ensures { result ≡ bad (decode image.now) t.0 s.0 }
 {
     let v = load_server(image, s);
     v.faulty && has(v.keys, t)
 }
 
-fn bad_servers(image: &[u8], t: ViewNumber) -> usize
-    requires { (length image.now ≡ image_size) × (1 ≤ t.0) × (t.0 ≤ views) }
+fn bad_servers(image: &Image, t: ViewNumber) -> usize
+    requires { (1 ≤ t.0) × (t.0 ≤ views) }
     ensures { result ≡ count_to (bad (decode image.now) t.0) servers }
 {
     (1..SERVERS + 1)
@@ -38,9 +39,9 @@ fn bad_servers(image: &[u8], t: ViewNumber) -> usize
 // An image whose servers were tested, and its newest view.
 #[derive(Clone, Copy)]
 struct Tested<'a> {
-    image: &'a [u8],
+    image: &'a Image,
     newest: ViewNumber,
-    ghost served: { (length image.now ≡ image_size) × Served (decode image.now) × (newest.0 ≡ (administrator_at image.now).newest.0) },
+    ghost served: { Served (decode image.now) × (newest.0 ≡ (administrator_at image.now).newest.0) },
 }
 
 impl Tested<'_> {
@@ -73,8 +74,8 @@ impl Tested<'_> {
 }
 
 // "an image whose byte differs from that is unreadable"
-pub fn holders_ok(image: &[u8], newest: ViewNumber) -> bool
-    requires { (length image.now ≡ image_size) × Served (decode image.now) × (newest.0 ≡ (administrator_at image.now).newest.0) }
+pub fn holders_ok(image: &Image, newest: ViewNumber) -> bool
+    requires { Served (decode image.now) × (newest.0 ≡ (administrator_at image.now).newest.0) }
     ensures { result ≡ all_to (holder_ok image.now) views }
 {
     Tested { image, newest }.holders_ok()

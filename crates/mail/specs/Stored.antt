@@ -1,5 +1,5 @@
 -- What the records of a readable image are, and what storing them makes of it. Assumes nothing.
-use Rattle.std.specs.Prelude.{ℕ, ◌+◌, ◌≤◌, ◌<◌, true, false, ◌≡◌, length, zero, suc, Some, Ok, Err, Bool, ltb}
+use Rattle.std.specs.Prelude.{ℕ, ◌+◌, ◌≤◌, ◌<◌, true, false, ◌≡◌, zero, suc, Some, Ok, Err, Bool, ltb}
 use Rattle.std.proofs.Common.{arith, sym, subst, ◌∙◌, lt-ltb, le-ltb}
 use Rattle.std.proofs.Math.Path.{refl, ap}
 use mathlib.Core.List.{List}
@@ -11,10 +11,9 @@ use Rattle.protocol.specs.Tools.{Result, refused, done}
 use Rattle.protocol.specs.Sizes.{clients, servers, views, messages}
 use Rattle.protocol.specs.Worlds.{World, view, server, client, message, room, with_client, with_view, with_message, with_administrator, send}
 use Rattle.protocol.specs.Steps.{After}
-use Rattle.codec.specs.Layout.{image_size}
 use Rattle.codec.specs.Places.{used_at, put_used, administrator_at, put_administrator, view_at, put_view, server_at, client_at, put_client, message_at, put_message}
 use Rattle.codec.specs.Images.{encode, decode}
-use Rattle.codec.specs.Laws.{Full, length_encode, put_view_lem, put_client_lem, put_message_lem, put_administrator_lem, put_send, full_view, full_client, full_message, full_administrator, full_send, used_decode, administrator_decode, decode_full, view_decode, server_decode, client_decode, message_decode}
+use Rattle.codec.specs.Laws.{Full, put_view_lem, put_client_lem, put_message_lem, put_administrator_lem, put_send, full_view, full_client, full_message, full_administrator, full_send, used_decode, administrator_decode, decode_full, view_decode, server_decode, client_decode, message_decode}
 use Rattle.protocol.proofs.Laws.Formed.{Formed, formed}
 use Rattle.protocol.specs.declared.refusals.Refusal.{Refusal}
 use Rattle.protocol.specs.declared.refusals.Refusal.TheVariants.{NoNumber}
@@ -83,9 +82,6 @@ pub record Image (l : List ℕ) (w : World) : Type 0 where
 pub image_of : {l : List ℕ} → Legible l → Image l (decode l)
 image_of {l} h = record { is = sym h.image; full = decode_full l }
 
-pub image_size_lem : {l : List ℕ} {w : World} → Image l w → length l ≡ image_size
-image_size_lem {l} {w} h = ap length h.is ∙ length_encode w h.full
-
 module _ {l : List ℕ} {w : World} (h : Image l w) where
   pub with_client_lem : (c : ℕ) → 1 ≤ c → c ≤ clients → (b : Client) → Image (put_client l c b) (with_client w c b)
   with_client_lem c a d b = record { is = ap (λ (k : List ℕ). put_client k c b) h.is ∙ put_client_lem w h.full c a d b; full = full_client w h.full c b }
@@ -137,9 +133,3 @@ unnumbered u r e = go (ltb u messages) refl e
     go : (b : Bool) → ltb u messages ≡ b → if b (Ok (number (u + 1))) (Err NoNumber) ≡ Err r → (messages ≤ u) × (r ≡ NoNumber)
     go true p e = absurd (let q : Ok (number (u + 1)) ≡ Err r = e in cc)
     go false p e = (ltb-false u messages p, cc)
-
--- ---- the length stays
-
-module _ {l : List ℕ} (h : Legible l) where
-  pub size_client : (c : ℕ) → 1 ≤ c → c ≤ clients → (b : Client) → length (put_client l c b) ≡ image_size
-  size_client c a d b = image_size_lem (with_client_lem (image_of h) c a d b)

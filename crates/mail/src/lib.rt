@@ -1,13 +1,13 @@
 // What the steps of a world share: a step's answer, and the messages of an image, made, found and sent.
 #![tactic(auto)]
 
-ghost use Rattle.std.specs.Prelude.{◌≡◌, ◌≤◌, length};
+ghost use Rattle.std.specs.Prelude.{◌≡◌, ◌≤◌};
 ghost use Rattle.protocol.specs.Sizes.{messages};
 ghost use Rattle.protocol.specs.Steps.{request as request_of, answer as answer_of};
-ghost use Rattle.codec.specs.Layout.{image_size};
 ghost use Rattle.codec.specs.Places.{used_at};
 ghost use Rattle.mail.specs.Images.{put_sent, number_left};
 
+use codec::layout::Image;
 pub use codec::places::present;
 use codec::places::{load_used, store_message, store_used};
 use protocol::limits::MESSAGES;
@@ -46,8 +46,7 @@ pub fn answer(s: ServerNumber, n: MessageNumber, x: Shown) -> Message
 }
 
 // "A new message takes the number after the last used." 10, "all 1,023 message numbers used".
-pub fn next_number(image: &[u8]) -> Result<MessageNumber, Refusal>
-    requires { length image.now ≡ image_size }
+pub fn next_number(image: &Image) -> Result<MessageNumber, Refusal>
     ensures { result ≡ number_left (used_at image.now) }
 {
     let used = load_used(image);
@@ -59,8 +58,8 @@ pub fn next_number(image: &[u8]) -> Result<MessageNumber, Refusal>
 }
 
 // The message m is sent with the number n, the one after the last used.
-pub fn send(image: &mut [u8], n: MessageNumber, m: Message)
-    requires { (length image.old ≡ image_size) × (n.0 ≤ messages) }
+pub fn send(image: &mut Image, n: MessageNumber, m: Message)
+    requires { n.0 ≤ messages }
     ensures { image.new ≡ put_sent image.old n.0 m }
 {
     store_used(image, n.0);

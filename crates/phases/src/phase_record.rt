@@ -1,17 +1,17 @@
 // The record of a phase as bytes: its head and its tallies, read, written, and their ranges tested.
+// A number in range stays a number: a type for it would be made and taken apart at each call, with the same goal.
 ghost use Rattle.std.specs.Prelude.{◌≡◌, ◌+◌, ◌≤◌, length};
 ghost use Rattle.protocol.specs.Sizes.{views};
 ghost use Rattle.codec.specs.Lists.{part, put};
-ghost use Rattle.phases.specs.Layout.{tally_place, tally_width, phase_width};
-ghost use Rattle.phases.specs.Records.{head_at, head_bytes, ended_fits, open_fits, head_fits, tally_read, tally_bytes, tally_plain, unheard_fits, tally_rule, tally_at, put_tally, plain_at, tally_fits};
+ghost use Rattle.phases.specs.Layout.{tally_place, tally_width};
+ghost use Rattle.phases.specs.Records.{head_at, head_bytes, ended_fits, open_fits, head_fits, tally_read, tally_plain, unheard_fits, tally_rule, tally_at, put_tally, plain_at, tally_fits};
 
 use super::layout::{
-    BEST_AT, DIFFER_AT, HEAD, HEAD_KIND_AT, HEAD_REQUEST_AT, HEAD_VIEW_AT, HEARD_AT, TALLY,
+    BEST_AT, DIFFER_AT, HEAD, HEAD_KIND_AT, HEAD_REQUEST_AT, HEAD_VIEW_AT, HEARD_AT, PHASE, TALLY,
     TALLY_SPARE, TALLY_SPARE_AT,
 };
 use checked::ranges;
-use codec::bytes::{are_zero, get16, get32, put_zeros, put8, put16, put32};
-use codec::layout::ENTRY;
+use codec::bytes::{are_zero, array_at, get16, get32, put_zeros, put8, put16, put32};
 use codec::records::{entry_plain, read_entry, write_entry};
 use protocol::limits::VIEWS;
 use protocol::{MessageKind, MessageNumber, ServerSet, ViewNumber};
@@ -27,12 +27,11 @@ pub struct Head {
 }
 
 // The head of a record.
-#[tactic(auto, unfolding(crate::specs::Records::head_at, crate::specs::Records::head_of, codec::specs::Lists::part))]
-pub fn load_head(phase: &[u8]) -> Head
-    requires { length phase.now ≡ phase_width }
+#[tactic(auto, unfolding(crate::specs::Records::head_at, crate::specs::Records::head_of))]
+pub fn load_head(phase: &[u8; PHASE]) -> Head
     ensures { result ≡ head_at phase.now }
 {
-    let b = &phase[..HEAD];
+    let b = array_at::<HEAD>(phase, 0);
     Head {
         kind: b[HEAD_KIND_AT],
         view: ViewNumber(b[HEAD_VIEW_AT]),
@@ -41,8 +40,7 @@ pub fn load_head(phase: &[u8]) -> Head
 }
 
 #[tactic(auto, using(crate::specs::Written::head_wrote))]
-pub fn store_head(phase: &mut [u8], h: Head)
-    requires { length phase.old ≡ phase_width }
+pub fn store_head(phase: &mut [u8; PHASE], h: Head)
     ensures { phase.new ≡ put phase.old 0 (head_bytes h) }
 {
     put8(phase, HEAD_KIND_AT, h.kind);
@@ -76,37 +74,24 @@ pub fn head_fits(h: Head) -> bool
     }
 }
 
-#[tactic(auto, unfolding(crate::specs::Records::tally_read, codec::specs::Lists::part))]
-fn read_tally(b: &[u8]) -> Tally
-    requires { length b.now ≡ tally_width }
+#[tactic(auto, unfolding(crate::specs::Records::tally_read))]
+fn read_tally(b: &[u8; TALLY]) -> Tally
     ensures { result ≡ tally_read b.now }
 {
     Tally {
         seen: ServerSet(get32(b, HEARD_AT)),
-        best: read_entry(&b[BEST_AT..BEST_AT + ENTRY]),
+        best: read_entry(array_at(b, BEST_AT)),
         one: b[DIFFER_AT] == 0,
     }
 }
 
-#[tactic(auto, using(crate::specs::Written::tally_wrote))]
-fn write_tally(phase: &mut [u8], at: usize, a: Tally)
-    requires { at + tally_width ≤ length phase.old }
-    ensures { phase.new ≡ put phase.old at (tally_bytes a) }
-{
-    put32(phase, at + HEARD_AT, a.seen.0);
-    write_entry(phase, at + BEST_AT, a.best);
-    put8(phase, at + DIFFER_AT, !a.one as u8);
-    put_zeros(phase, at + TALLY_SPARE_AT, TALLY_SPARE);
-}
-
-#[tactic(auto, unfolding(crate::specs::Records::tally_plain, codec::specs::Lists::part))]
-fn tally_plain(b: &[u8]) -> bool
-    requires { length b.now ≡ tally_width }
+#[tactic(auto, unfolding(crate::specs::Records::tally_plain))]
+fn tally_plain(b: &[u8; TALLY]) -> bool
     ensures { result ≡ tally_plain b.now }
 {
     b[DIFFER_AT] <= 1
         && are_zero(b, TALLY_SPARE_AT, TALLY_SPARE)
-        && entry_plain(&b[BEST_AT..BEST_AT + ENTRY])
+        && entry_plain(array_at(b, BEST_AT))
 }
 
 // Where nobody was heard there is no entry, and nothing differs.
@@ -131,37 +116,38 @@ fn tally_place(t: ViewNumber) -> usize
     HEAD + TALLY * (t.0 as usize - 1)
 }
 
-#[tactic(auto, using(codec::specs::Lists::span))]
-fn tally_of(phase: &[u8], t: ViewNumber) -> &[u8]
-    requires { (length phase.now ≡ phase_width) × (1 ≤ t.0) × (t.0 ≤ views) }
-    ensures bytes { result.now ≡ part phase.now (tally_place t.0) tally_width }
-    ensures width { length result.now ≡ tally_width }
+fn tally_of(phase: &[u8; PHASE], t: ViewNumber) -> &[u8; TALLY]
+    requires { (1 ≤ t.0) × (t.0 ≤ views) }
+    ensures { result.now ≡ part phase.now (tally_place t.0) tally_width }
 {
-    let at = tally_place(t);
-    &phase[at..at + TALLY]
+    array_at(phase, tally_place(t))
 }
 
 // The tally of view t.
 #[tactic(auto, unfolding(crate::specs::Records::tally_at))]
-pub fn load_tally(phase: &[u8], t: ViewNumber) -> Tally
-    requires { (length phase.now ≡ phase_width) × (1 ≤ t.0) × (t.0 ≤ views) }
+pub fn load_tally(phase: &[u8; PHASE], t: ViewNumber) -> Tally
+    requires { (1 ≤ t.0) × (t.0 ≤ views) }
     ensures { result ≡ tally_at phase.now t.0 }
 {
     read_tally(tally_of(phase, t))
 }
 
-#[tactic(auto, unfolding(crate::specs::Records::put_tally))]
-pub fn store_tally(phase: &mut [u8], t: ViewNumber, a: Tally)
-    requires { (length phase.old ≡ phase_width) × (1 ≤ t.0) × (t.0 ≤ views) }
+#[tactic(auto, using(crate::specs::Written::tally_wrote), unfolding(crate::specs::Records::put_tally))]
+pub fn store_tally(phase: &mut [u8; PHASE], t: ViewNumber, a: Tally)
+    requires { (1 ≤ t.0) × (t.0 ≤ views) }
     ensures { phase.new ≡ put_tally phase.old t.0 a }
 {
-    write_tally(phase, tally_place(t), a);
+    let at = tally_place(t);
+    put32(phase, at + HEARD_AT, a.seen.0);
+    write_entry(phase, at + BEST_AT, a.best);
+    put8(phase, at + DIFFER_AT, !a.one as u8);
+    put_zeros(phase, at + TALLY_SPARE_AT, TALLY_SPARE);
 }
 
 // The spare bytes and the flag of the tally of view t.
 #[tactic(auto, unfolding(crate::specs::Records::plain_at))]
-fn plain_at(phase: &[u8], t: ViewNumber) -> bool
-    requires { (length phase.now ≡ phase_width) × (1 ≤ t.0) × (t.0 ≤ views) }
+fn plain_at(phase: &[u8; PHASE], t: ViewNumber) -> bool
+    requires { (1 ≤ t.0) × (t.0 ≤ views) }
     ensures { result ≡ plain_at phase.now t.0 }
 {
     tally_plain(tally_of(phase, t))
@@ -169,8 +155,8 @@ fn plain_at(phase: &[u8], t: ViewNumber) -> bool
 
 // The tally of a message's view is in its range; 0 is no view, and has none.
 #[tactic(auto, unfolding(crate::specs::Records::tally_fits))]
-pub fn tally_fits(phase: &[u8], t: ViewNumber) -> bool
-    requires { (length phase.now ≡ phase_width) × (t.0 ≤ views) }
+pub fn tally_fits(phase: &[u8; PHASE], t: ViewNumber) -> bool
+    requires { t.0 ≤ views }
     ensures { result ≡ tally_fits phase.now t.0 }
 {
     t == ViewNumber(0) || plain_at(phase, t) && tally_rule(load_tally(phase, t))

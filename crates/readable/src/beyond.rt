@@ -1,13 +1,13 @@
 // The messages that are zero: message 0, and those beyond the messages used.
-ghost use Rattle.std.specs.Prelude.{◌≡◌, ◌&&◌, ◌+◌, ◌≤◌, length, drop};
+ghost use Rattle.std.specs.Prelude.{◌≡◌, ◌&&◌, ◌+◌, ◌≤◌, drop};
 ghost use Rattle.protocol.specs.Sizes.{messages};
 ghost use Rattle.protocol.specs.Tools.{all_to};
-ghost use Rattle.codec.specs.Layout.{image_size, message_place};
+ghost use Rattle.codec.specs.Layout.{message_place};
 ghost use Rattle.codec.specs.Places.{used_at};
 ghost use Rattle.readable.specs.Scan.{first_ok, message_ok};
 ghost use Rattle.readable.specs.Beyond.{zero_bytes};
 
-use codec::layout::{MESSAGE, MESSAGES_AT};
+use codec::layout::{Image, MESSAGE, MESSAGES_AT};
 use codec::places::record;
 
 // Every byte is zero: all are joined and tested one time, which the compiler turns into vector code.
@@ -19,16 +19,15 @@ fn zero_bytes(b: &[u8]) -> bool
 }
 
 // "message 0 all zero"
-pub fn first_zero(image: &[u8]) -> bool
-    requires { length image.now ≡ image_size }
+pub fn first_zero(image: &Image) -> bool
     ensures { result ≡ first_ok image.now }
 {
-    zero_bytes(record(image, MESSAGES_AT, MESSAGE, 0))
+    zero_bytes(record::<MESSAGE>(image, MESSAGES_AT, 0))
 }
 
 // "messages beyond used are zero": of the messages used of an image, it goes with the tests of those.
-pub fn beyond_zero(image: &[u8], used: u16) -> bool
-    requires { (length image.now ≡ image_size) × (used ≤ messages) }
+pub fn beyond_zero(image: &Image, used: u16) -> bool
+    requires { used ≤ messages }
     ensures bytes { result ≡ zero_bytes (drop (message_place (used + 1)) image.now) }
     ensures all { used ≡ used_at image.now → all_to (message_ok image.now) messages ≡ all_to (message_ok image.now) used && result }
 {

@@ -1,20 +1,18 @@
-// Whether an image is readable. Ranges are `1..n + 1`: over `1..=n` a chain asks in each turn whether the last number has come, and the test
-// takes 1.1 times as long.
-ghost use Rattle.std.specs.Prelude.{◌≡◌, ◌≤◌, length};
+// Whether an image is readable. Ranges are `1..n + 1`: over `1..=n` a chain asks in each turn whether the last number has come,
+// and the test takes 1.1 times as long.
+// A number in range stays a number: a type for it would be made and taken apart at each call, with the same goal.
+ghost use Rattle.std.specs.Prelude.{◌≡◌, ◌≤◌};
 ghost use Rattle.protocol.specs.Tools.{all_to};
 ghost use Rattle.protocol.specs.Readable.{last_of};
 ghost use Rattle.protocol.specs.Sizes.{clients, servers, views};
-ghost use Rattle.codec.specs.Layout.{image_size};
 ghost use Rattle.codec.specs.Places.{used_at, administrator_at};
 ghost use Rattle.readable.specs.Scan.{Open, header_ok, view_ok, server_ok, client_ok, message_ok, messages_ok};
 ghost use Rattle.readable.specs.Readable.{readable as is_readable};
 
 use super::beyond::{beyond_zero, first_zero};
-use super::chain::chains_fit;
-use super::sent::{client_fits, header_fits, sent_fits};
-use codec::layout::{
-    CLIENT, CLIENTS_AT, HEADER, IMAGE, MESSAGE, MESSAGES_AT, SERVER, SERVERS_AT, VIEW, VIEWS_AT,
-};
+use super::sent::{Opened, header_fits};
+use codec::bytes::array_at;
+use codec::layout::{CLIENTS_AT, Image, MESSAGES_AT, SERVERS_AT, VIEWS_AT};
 use codec::places::{load_administrator, load_message, load_server, load_used, load_view, record};
 use codec::records::{client_plain, header_plain, message_plain, server_plain, view_plain};
 use key_holders::holders_ok;
@@ -22,19 +20,18 @@ use protocol::limits::{CLIENTS, SERVERS, VIEWS};
 use protocol::{Administrator, MessageNumber, ServerNumber, ViewNumber};
 
 #[tactic(auto, unfolding(crate::specs::Scan::header_ok, codec::specs::Lists::part))]
-fn header_ok(image: &[u8]) -> bool
-    requires { length image.now ≡ image_size }
+fn header_ok(image: &Image) -> bool
     ensures { result ≡ header_ok image.now }
 {
-    header_plain(&image[0..HEADER]) && header_fits(image)
+    header_plain(array_at(image, 0)) && header_fits(image)
 }
 
 #[tactic(auto, using(crate::specs::Scan::view_rule_lem), unfolding(crate::specs::Scan::view_ok))]
-fn view_ok(image: &[u8], t: ViewNumber, last: ViewNumber) -> bool
-    requires { (length image.now ≡ image_size) × (1 ≤ t.0) × (t.0 ≤ views) × (last.0 ≡ last_of (administrator_at image.now)) }
+fn view_ok(image: &Image, t: ViewNumber, last: ViewNumber) -> bool
+    requires { (1 ≤ t.0) × (t.0 ≤ views) × (last.0 ≡ last_of (administrator_at image.now)) }
     ensures { result ≡ view_ok image.now t.0 }
 {
-    view_plain(record(image, VIEWS_AT, VIEW, t.0 as usize - 1))
+    view_plain(record(image, VIEWS_AT, t.0 as usize - 1))
         && records::view_fits(load_view(image, t), t, last)
 }
 
@@ -44,14 +41,6 @@ fn last_of(a: Administrator) -> ViewNumber
     ensures { result.0 ≡ last_of a }
 {
     ViewNumber(a.newest.0 + a.ending.is_some() as u8)
-}
-
-// An image with a header that fits, and its administrator.
-#[derive(Clone, Copy)]
-struct Opened<'a> {
-    image: &'a [u8],
-    administrator: Administrator,
-    ghost open: { Open image.now × (administrator ≡ administrator_at image.now) },
 }
 
 impl Opened<'_> {
@@ -68,7 +57,7 @@ impl Opened<'_> {
         requires { (1 ≤ s.0) × (s.0 ≤ servers) }
         ensures { result ≡ server_ok self.now.image.now s.0 }
     {
-        server_plain(record(self.image, SERVERS_AT, SERVER, s.0 as usize - 1))
+        server_plain(record(self.image, SERVERS_AT, s.0 as usize - 1))
             && records::server_fits(load_server(self.image, s), self.administrator.newest)
     }
 
@@ -83,8 +72,7 @@ impl Opened<'_> {
         requires { (1 ≤ c) × (c ≤ clients) }
         ensures { result ≡ client_ok self.now.image.now c }
     {
-        client_plain(record(self.image, CLIENTS_AT, CLIENT, c as usize - 1))
-            && client_fits(self.image, c)
+        client_plain(record(self.image, CLIENTS_AT, c as usize - 1)) && self.client_fits(c)
     }
 
     fn clients_ok(&self) -> bool
@@ -99,12 +87,8 @@ impl Opened<'_> {
         requires { n.0 ≤ used_at self.now.image.now }
         ensures { result ≡ message_ok self.now.image.now n.0 }
     {
-        message_plain(record(self.image, MESSAGES_AT, MESSAGE, n.0 as usize))
-            && sent_fits(
-                self.image,
-                load_message(self.image, n),
-                self.administrator.newest,
-            )
+        message_plain(record(self.image, MESSAGES_AT, n.0 as usize))
+            && self.sent_fits(load_message(self.image, n))
     }
 
     #[tactic(auto, using(crate::specs::Scan::open_used))]
@@ -124,12 +108,12 @@ impl Opened<'_> {
     }
 }
 
-// "An image is readable if ...": for every byte string of every length.
-#[tactic(auto, using(crate::specs::Scan::open_header, crate::specs::Scan::servers_served, crate::specs::Scan::readable_scan, crate::specs::Scan::readable_size), unfolding(crate::specs::Scan::scanned))]
-pub fn readable(image: &[u8]) -> bool
+// The clauses of "An image is readable if ..." on the bytes of an image.
+#[tactic(auto, using(crate::specs::Scan::open_header, crate::specs::Scan::servers_served, crate::specs::Scan::readable_scan), unfolding(crate::specs::Scan::scanned))]
+pub fn scanned(image: &Image) -> bool
     ensures { result ≡ is_readable image.now }
 {
-    if image.len() != IMAGE || !header_ok(image) {
+    if !header_ok(image) {
         return false;
     }
     let administrator = load_administrator(image);
@@ -141,6 +125,17 @@ pub fn readable(image: &[u8]) -> bool
         && opened.servers_ok()
         && opened.clients_ok()
         && opened.messages_ok()
-        && chains_fit(image)
+        && opened.chains_fit()
         && holders_ok(image, administrator.newest)
+}
+
+// "An image is readable if ...": for every byte string of every length.
+#[tactic(auto, using(crate::specs::Scan::readable_size))]
+pub fn readable(image: &[u8]) -> bool
+    ensures { result ≡ is_readable image.now }
+{
+    let Some(image) = image.as_array() else {
+        return false;
+    };
+    scanned(image)
 }

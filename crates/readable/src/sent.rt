@@ -1,13 +1,14 @@
 // The clauses of "readable" that name messages.
-ghost use Rattle.std.specs.Prelude.{◌≡◌, ◌≤◌, length};
+// A number in range stays a number: a type for it would be made and taken apart at each call, with the same goal.
+ghost use Rattle.std.specs.Prelude.{◌≡◌, ◌≤◌};
 ghost use Rattle.protocol.specs.Kinds.{message_code};
 ghost use Rattle.protocol.specs.Sizes.{clients, messages};
 ghost use Rattle.protocol.specs.Readable.{is_asked, ending_fits, header_fits, phase_fits, client_fits, sent_fits};
-ghost use Rattle.codec.specs.Layout.{image_size};
 ghost use Rattle.codec.specs.Places.{used_at, administrator_at};
 ghost use Rattle.codec.specs.Images.{decode};
 ghost use Rattle.readable.specs.Scan.{Open, sent_as, sent as is_sent};
 
+use codec::layout::Image;
 use codec::places::{load_administrator, load_client, load_message, load_used, present};
 use protocol::limits::{MESSAGES, VIEWS};
 use protocol::{Administrator, Client, Message, MessageKind, MessageNumber, Phase, ViewNumber};
@@ -15,8 +16,8 @@ use values::entries::same;
 
 // Message n, if it was sent.
 #[tactic(auto, using(crate::specs::Scan::present_used, codec::specs::Laws::message_decode))]
-pub fn sent(image: &[u8], n: MessageNumber) -> Option<Message>
-    requires { (length image.now ≡ image_size) × (used_at image.now ≤ messages) }
+pub fn sent(image: &Image, n: MessageNumber) -> Option<Message>
+    requires { used_at image.now ≤ messages }
     ensures { result ≡ is_sent (decode image.now) n.0 }
 {
     if present(image, n) {
@@ -28,8 +29,8 @@ pub fn sent(image: &[u8], n: MessageNumber) -> Option<Message>
 
 // Message n, if it was sent and is of that kind and sender.
 #[tactic(auto, unfolding(protocol::specs::Readable::is_sent))]
-fn sent_as(image: &[u8], n: MessageNumber, kind: MessageKind, sender: u8) -> Option<Message>
-    requires { (length image.now ≡ image_size) × (used_at image.now ≤ messages) }
+fn sent_as(image: &Image, n: MessageNumber, kind: MessageKind, sender: u8) -> Option<Message>
+    requires { used_at image.now ≤ messages }
     ensures { result ≡ sent_as (decode image.now) n.0 (message_code kind) sender }
 {
     match sent(image, n) {
@@ -40,8 +41,8 @@ fn sent_as(image: &[u8], n: MessageNumber, kind: MessageKind, sender: u8) -> Opt
 
 // "while ending, newest is below 32 and the END is that of newest"
 #[tactic(auto, using(codec::specs::Laws::administrator_decode))]
-fn ending_fits(image: &[u8], a: Administrator) -> bool
-    requires { (length image.now ≡ image_size) × (used_at image.now ≤ messages) × (a ≡ administrator_at image.now) }
+fn ending_fits(image: &Image, a: Administrator) -> bool
+    requires { (used_at image.now ≤ messages) × (a ≡ administrator_at image.now) }
     ensures { result ≡ ending_fits (decode image.now) a.ending }
 {
     let Some(n) = a.ending else {
@@ -51,8 +52,7 @@ fn ending_fits(image: &[u8], a: Administrator) -> bool
 }
 
 #[tactic(auto, using(codec::specs::Laws::administrator_decode, codec::specs::Laws::used_decode), unfolding(protocol::specs::Readable::header_fits))]
-pub fn header_fits(image: &[u8]) -> bool
-    requires { length image.now ≡ image_size }
+pub fn header_fits(image: &Image) -> bool
     ensures { result ≡ header_fits (decode image.now) }
 {
     let a = load_administrator(image);
@@ -61,47 +61,56 @@ pub fn header_fits(image: &[u8]) -> bool
         && ending_fits(image, a)
 }
 
-// "an answer's request has kind 1 to 3"
-#[tactic(auto, using(crate::specs::Scan::open_used))]
-fn is_asked(image: &[u8], n: MessageNumber) -> bool
-    requires { Open image.now }
-    ensures { result ≡ is_asked (decode image.now) n.0 }
-{
-    sent(image, n).is_some_and(|m| m.is_request())
+// An image with a header that fits, and its administrator.
+#[derive(Clone, Copy)]
+pub struct Opened<'a> {
+    pub image: &'a Image,
+    pub administrator: Administrator,
+    pub ghost open: { Open image.now × (administrator ≡ administrator_at image.now) },
 }
 
-// A message that was sent.
-#[tactic(auto, using(crate::specs::Scan::sent_rule))]
-pub fn sent_fits(image: &[u8], m: Message, newest: ViewNumber) -> bool
-    requires { Open image.now × (newest.0 ≡ (administrator_at image.now).newest.0) }
-    ensures { result ≡ sent_fits (decode image.now) m }
-{
-    records::message_fits(m, newest, is_asked(image, m.request))
-}
+impl Opened<'_> {
+    // "an answer's request has kind 1 to 3"
+    #[tactic(auto, using(crate::specs::Scan::open_used))]
+    fn is_asked(&self, n: MessageNumber) -> bool
+        ensures { result ≡ is_asked (decode self.now.image.now) n.0 }
+    {
+        sent(self.image, n).is_some_and(|m| m.is_request())
+    }
 
-#[tactic(auto, using(crate::specs::Scan::open_used))]
-fn phase_fits(image: &[u8], c: u8, a: Client) -> bool
-    requires { Open image.now }
-    ensures { result ≡ phase_fits (decode image.now) c a a.phase }
-{
-    match a.phase {
-        Phase::Idle => records::idle_fits(a),
-        Phase::Reading(n) => {
-            records::reading_fits(a, sent_as(image, n, MessageKind::Read, c).is_some())
-        }
-        // "in phase 2 it is what is written"
-        Phase::Writing(n) => {
-            records::kind_fits(a.kind)
-                && sent_as(image, n, MessageKind::Write, c).is_some_and(|m| same(a.entry, m.entry))
+    // A message that was sent.
+    #[tactic(auto, using(crate::specs::Scan::sent_rule))]
+    pub fn sent_fits(&self, m: Message) -> bool
+        ensures { result ≡ sent_fits (decode self.now.image.now) m }
+    {
+        records::message_fits(m, self.administrator.newest, self.is_asked(m.request))
+    }
+
+    #[tactic(auto, using(crate::specs::Scan::open_used))]
+    fn phase_fits(&self, c: u8, a: Client) -> bool
+        ensures { result ≡ phase_fits (decode self.now.image.now) c a a.phase }
+    {
+        match a.phase {
+            Phase::Idle => records::idle_fits(a),
+            Phase::Reading(n) => {
+                records::reading_fits(a, sent_as(self.image, n, MessageKind::Read, c).is_some())
+            }
+            // "in phase 2 it is what is written"
+            Phase::Writing(n) => {
+                records::kind_fits(a.kind)
+                    && sent_as(self.image, n, MessageKind::Write, c).is_some_and(|m| same(
+                        a.entry, m.entry,
+                    ))
+            }
         }
     }
-}
 
-#[tactic(auto, using(crate::specs::Scan::client_rule_lem))]
-pub fn client_fits(image: &[u8], c: u8) -> bool
-    requires { Open image.now × (1 ≤ c) × (c ≤ clients) }
-    ensures { result ≡ client_fits (decode image.now) c }
-{
-    let a = load_client(image, c);
-    records::client_range(a) && phase_fits(image, c, a)
+    #[tactic(auto, using(crate::specs::Scan::client_rule_lem))]
+    pub fn client_fits(&self, c: u8) -> bool
+        requires { (1 ≤ c) × (c ≤ clients) }
+        ensures { result ≡ client_fits (decode self.now.image.now) c }
+    {
+        let a = load_client(self.image, c);
+        records::client_range(a) && self.phase_fits(c, a)
+    }
 }

@@ -4,10 +4,11 @@ use Prim.Native.Nat.{ℕ, zero, suc, ◌*◌, ◌-◌, ◌/◌, ◌%◌, ◌<◌
 use native.Mathlib.Omega.{arith}
 use Rattle.std.specs.Prelude.{true, false, ◌≡◌, eqb, leb, None, Some, Result as Outcome, Ok, Err}
 use Rattle.std.proofs.Math.Path.{refl, sym, ap, ap₂}
-use Rattle.std.proofs.Common.{subst, ◌∙◌, drop_of_length-le, take_all}
+use Rattle.std.proofs.Common.{◌∙◌, drop_of_length-le, take_all}
 use mathlib.Core.List.{List, ◌++◌, append-nil}
 use Rattle.std.proofs.Math.ListN.{length}
-use borrow.Author.Tests.{eqb-true, leb-true, lt-ltb}
+use borrow.Author.Tests.{eqb-true, ne_eqb, leb-true, lt-ltb}
+use Rattle.std.specs.Simd.{first_chunks}
 use Rattle.protocol.specs.declared.View.{View}
 use Rattle.protocol.specs.Tools.{refused, done, guard}
 use Rattle.protocol.specs.Sizes.{view_with}
@@ -20,7 +21,7 @@ use Rattle.codec.specs.Images.{encode, decode}
 use Rattle.image.specs.Fresh.{fresh_on}
 use Rattle.image.specs.Steps.{steps_in, steps_of, played}
 use Rattle.journal.specs.declared.Replayed.{Replayed as Answer}
-use Rattle.journal.specs.Replays.{Plays, stopped_by}
+use Rattle.journal.specs.Replays.{Plays, stopped_by, chunks_are}
 use Rattle.journal.specs.Rests.{length_steps}
 use Rattle.protocol.specs.declared.refusals.Refusal.{Refusal}
 use Rattle.protocol.specs.declared.refusals.Refusal.TheVariants.{WrongLength, NoRefusal}
@@ -53,31 +54,35 @@ whole_held j h =
           ∙ sym (rw z (append-nil _));
     }
 
-pub copied_held : (s j s' : List ℕ) → length j % step_width ≡ 0 → length s ≡ length j → s' ≡ put s 0 j → Held s' (length j / step_width)
-copied_held s j s' w h e = subst (λ (l : List ℕ). Held l (length j / step_width)) (sym (e ∙ put_whole s j h)) (whole_held j w)
+pub copied_held : (s j s' : List ℕ) {n : ℕ} → n ≡ length j / step_width → length j % step_width ≡ 0 → length s ≡ length j → s' ≡ put s 0 j → Held s' n
+copied_held s j s' m w h e = rw (m, e ∙ put_whole s j h) (whole_held j w)
 
-module _ (v : View) (b : Begins v) (i j s : List ℕ) (e : i ≡ encode (fresh_world v)) (r : Answer) (i' : List ℕ) (p : Plays r i' (played (replay (decode i) (steps_of j)))) where
+module _ (v : View) (b : Begins v) (i j s : List ℕ) (e : i ≡ encode (fresh_world v)) {bs : List (List ℕ)} (cut : bs ≡ first_chunks step_width (length j / step_width) j)
+    (r : Answer) (i' : List ℕ) (p : Plays r i' (played (replay (decode i) bs))) where
   refusal_is : stopped_by r.refusal ≡ (replay (fresh_world v) (steps_of j)).refusal
-  refusal_is = p.refusal ∙ ap (λ (w : World). (replay w (steps_of j)).refusal) (begun_world v b i e)
+  unfolding steps_of
+  refusal_is =
+      p.refusal ∙ ap₂ (λ (w : World) (x : List (List ℕ)). (replay w x).refusal) (begun_world v b i e) (cut ∙ chunks_are (length j / step_width) j)
 
   -- "15, the replay stops on no refusal"
   pub none_left : (i'' : List ℕ) → r.refusal ≡ None → i'' ≡ encode (fresh_world v) → Shortens (Err NoRefusal) i'' s (ended (fresh_world v) s (shortened (fresh_world v) (steps_of j)))
   unfolding shortened guard
   none_left i'' z h = rw (sym refusal_is ∙ ap stopped_by z) (record { answer = refl; image = h; shorter = refl })
 
-  pub some_left : (k : ℕ) (i'' s' s'' : List ℕ) (y : Refusal) → r.refusal ≡ Some y → length s ≡ length j → s' ≡ put s 0 j
-      → Leaves k s'' (length s') (passes (stops_with (fresh_world v) (refusal_number y)) (length j / step_width) (steps_in (length j / step_width) s'))
+  pub some_left : (k : ℕ) (i'' s' s'' : List ℕ) (y : Refusal) → r.refusal ≡ Some y → length s ≡ length j → s' ≡ put s 0 j → length bs ≡ length j / step_width
+      → Leaves k s'' (length s') (passes (stops_with (fresh_world v) (refusal_number y)) (length bs) (steps_in (length bs) s'))
       → i'' ≡ encode (fresh_world v) → Shortens (Ok k) i'' s'' (ended (fresh_world v) s (shortened (fresh_world v) (steps_of j)))
   unfolding shortened short_journal steps_of guard
-  some_left k i'' s' s'' y z same c d h =
+  some_left k i'' s' s'' y z same c m d h =
       let stop : refusal_number y ≡ (replay (fresh_world v) (steps_of j)).refusal = sym (ap stopped_by z) ∙ refusal_is in
       let n : ℕ = length j / step_width in
       let copied : s' ≡ j = c ∙ put_whole s j same in
       let long : length s' ≡ length s = ap (λ (l : List ℕ). length l) copied ∙ sym same in
       let count : n ≡ length (steps_in n j) = sym (length_steps n j) in
-      let left : passes (stops_with (fresh_world v) (refusal_number y)) n (steps_in n s')
+      let left : passes (stops_with (fresh_world v) (refusal_number y)) (length bs) (steps_in (length bs) s')
       ≡ passes (stops_with (fresh_world v) (replay (fresh_world v) (steps_in n j)).refusal) (length (steps_in n j)) (steps_in n j) =
-      ap₂ (λ (x : ℕ) (l : List ℕ). passes (stops_with (fresh_world v) x) n (steps_in n l)) stop copied
+      ap (λ (x : ℕ). passes (stops_with (fresh_world v) (refusal_number y)) x (steps_in x s')) m
+      ∙ ap₂ (λ (x : ℕ) (l : List ℕ). passes (stops_with (fresh_world v) x) n (steps_in n l)) stop copied
       ∙ ap (λ (x : ℕ). passes (stops_with (fresh_world v) (replay (fresh_world v) (steps_in n j)).refusal) x (steps_in n j)) count in
       rw (lt-ltb 0 (replay (fresh_world v) (steps_in n j)).refusal (positive (replay (fresh_world v) (steps_in n j)).refusal (λ e. refusal_some y (sym (stop ∙ e)))))
       (record { answer = ap done (d.steps ∙ ap (λ (x : List (List ℕ)). length x) left); image = h; shorter = d.bytes ∙ ap₂ filled long left })
@@ -112,6 +117,9 @@ module _ (i : List ℕ) (bits f reads : ℕ) (j s : List ℕ) where
   pub lent_wrong : false ≡ lent_well i j s → Shortens (Err WrongLength) i s (shorten_on i bits f reads j s)
   unfolding shorten_on guard
   lent_wrong e = rw (← e) (record { answer = refl; image = refl; shorter = refl })
+
+  pub wrong_image : (length i ≡ image_size → ⊥) → Shortens (Err WrongLength) i s (shorten_on i bits f reads j s)
+  wrong_image e = lent_wrong (rw (ne_eqb (length i) image_size e) refl)
 
   module _ (e : true ≡ lent_well i j s) where
     size : length i ≡ image_size

@@ -1,15 +1,16 @@
 -- A step left out of a replay, and a journal's passes in the lent buffer: what the functions of shorten/src do between two calls.
 -- `trial_stops` and `trial_ends`: the replay of a journal in two parts is that without the step between them; `step_stays` and
 -- `step_goes`: one step tried; `Sweeping` and `Passing`: what the two loops keep. Used by the proofs of shorten/src. Assumes nothing.
-use Prim.Native.Nat.{ℕ, zero, suc, ◌+◌, ◌*◌, ◌-◌, ◌/◌, ◌%◌, ◌≤◌, ◌<◌}
+use Prim.Native.Nat.{ℕ, zero, suc, ◌+◌, ◌*◌, ◌-◌, ◌/◌, ◌≤◌, ◌<◌}
 use native.Mathlib.Omega.{arith}
+use Rattle.std.specs.Simd.{first_chunks}
 use Rattle.std.specs.Prelude.{Bool, true, false, ◌≡◌, refl, ltb, eqb, Option}
 use Rattle.protocol.specs.declared.refusals.Refusal.{Refusal}
 use Rattle.protocol.specs.Refusals.{refusal_number}
 use Rattle.std.proofs.Math.Path.{sym, ap, ap₂}
 use Rattle.std.proofs.lemmas.Bool.{eqb-false}
 use borrow.Author.Tests.{eqb-true}
-use Rattle.std.proofs.Common.{◌∙◌, take_at, drop_at, take-add, drop-drop, eq-eqb, ne_eqb, lt-ltb, le-ltb}
+use Rattle.std.proofs.Common.{◌∙◌, take_at, drop_at, take-add, eq-eqb, ne_eqb, lt-ltb, le-ltb}
 use mathlib.Core.List.{List, [], ◌∷◌}
 use Rattle.std.proofs.Math.ListN.{length, take, drop, length-take, length-drop}
 use Rattle.std.proofs.Math.Seq.{take_all}
@@ -19,14 +20,13 @@ use Rattle.protocol.specs.Worlds.{World, fresh_world}
 use Rattle.protocol.specs.Readable.{well_formed}
 use Rattle.protocol.specs.Runs.{step_width, Replayed, replay}
 use Rattle.preservation.proofs.Begun.{fresh_kept}
-use Rattle.codec.specs.Layout.{image_size}
 use Rattle.codec.specs.Images.{encode, decode}
 use Rattle.readable.specs.Readable.{world_decode}
 use Rattle.image.specs.Steps.{steps_in, steps_of, played}
 use Rattle.mail.specs.Images.{Legible}
 use Rattle.journal.specs.declared.Replayed.{Replayed as Answer}
-use Rattle.journal.specs.Replays.{Plays, spelled, stopped_by}
-use Rattle.journal.specs.Rests.{replay_kept, length_steps, steps_count}
+use Rattle.journal.specs.Replays.{Plays, spelled, stopped_by, chunks_are}
+use Rattle.journal.specs.Rests.{replay_kept, length_steps}
 use Rattle.shorten.specs.Passes.{without, dropped, sweep, one_pass, passes}
 use Rattle.shorten.specs.Minimal.{Part, part_length, without_length, dropped_part, sweep_part}
 use Rattle.shorten.specs.Journals.{stops_with}
@@ -49,15 +49,6 @@ steps_take (suc k) (suc n) j h g =
     ∙ ap₂ (λ (x y : List ℕ). x ∷ steps_in k y) (take_at (take step_width j) r step_width l) (drop_at (take step_width j) r step_width l)
     ∙ ap (λ (x : List (List ℕ)). take step_width j ∷ x) (steps_take k n (drop step_width j) (omega arith) (omega arith))
 
-steps_drop : (k n : ℕ) (j : List ℕ) → k ≤ n → steps_in (n - k) (drop (k * step_width) j) ≡ drop k (steps_in n j)
-unfolding steps_in
-steps_drop zero n j h = let e : n - 0 ≡ n = omega arith in ap (λ (m : ℕ). steps_in m j) e
-steps_drop (suc k) zero j h = absurd (omega arith)
-steps_drop (suc k) (suc n) j h =
-    let fewer : suc n - suc k ≡ n - k = omega arith in
-    let more : suc k * step_width ≡ step_width + k * step_width = omega arith in
-    ap₂ (λ (m : ℕ) (r : List ℕ). steps_in m r) fewer (ap (λ (m : ℕ). drop m j) more ∙ sym (drop-drop (k * step_width) step_width j)) ∙ steps_drop k n (drop step_width j) (omega arith)
-
 -- the first n steps of a buffer
 pub steps_taken : (n : ℕ) (s : List ℕ) → n * step_width ≤ length s → steps_of (take (n * step_width) s) ≡ steps_in n s
 unfolding steps_of
@@ -69,39 +60,20 @@ steps_taken n s h =
 
 -- what is lent of it
 module _ (s : List ℕ) (n : ℕ) (held : Held s n) where
-  pub held_counted : n * step_width ≡ length (take (n * step_width) s)
-  held_counted = let d = length-take (n * step_width) s in let f = held.fits in omega arith
+  pub held_steps : {bs : List (List ℕ)} → bs ≡ first_chunks step_width (length (take (n * step_width) s) / step_width) (take (n * step_width) s) → bs ≡ steps_in n s
+  unfolding steps_of
+  held_steps e = e ∙ chunks_are (length (take (n * step_width) s) / step_width) (take (n * step_width) s) ∙ steps_taken n s held.fits
 
-  pub held_whole : length (take (n * step_width) s) % step_width ≡ 0
-  held_whole = let d = held_counted in omega arith
-
-  pub held_below : (k : ℕ) → k < n → k < length (take (n * step_width) s) / step_width
-  held_below k b = let d = held_counted in omega arith
+  pub held_below : {bs : List (List ℕ)} → bs ≡ steps_in n s → (k : ℕ) → k < n → k < length bs
+  held_below e k b = let l = ap (λ (x : List (List ℕ)). length x) e ∙ length_steps n s in omega arith
 
   pub held_room : (k : ℕ) → k < n → k * step_width + step_width ≤ length s
   held_room k b = let f = held.fits in omega arith
-
--- the two parts of a journal of whole steps
-module _ (j : List ℕ) (place : ℕ) (whole : length j % step_width ≡ 0) (below : place < length j / step_width) where
-  pub first_counted : place * step_width ≡ length (take (place * step_width) j)
-  first_counted = let d = length-take (place * step_width) j in omega arith
-
-  pub first_whole : length (take (place * step_width) j) % step_width ≡ 0
-  first_whole = let d = first_counted in omega arith
-
-  pub rest_whole : length (take (length j - (place * step_width + step_width)) (drop (place * step_width + step_width) j)) % step_width ≡ 0
-  rest_whole =
-      let d = length-drop (place * step_width + step_width) j in
-      let t = length-take (length j - (place * step_width + step_width)) (drop (place * step_width + step_width) j) in
-      omega arith
 
 -- ---- replays on the image of a readable world
 
 pub played_legible : (i : List ℕ) (bs : List (List ℕ)) (r : Answer) (i' : List ℕ) → Legible i → Plays r i' (played (replay (decode i) bs)) → Legible i'
 played_legible i bs r i' h p = spelled (replay (decode i) bs).world (replay_kept (decode i) bs h.formed) i' p.image
-
-pub played_size : (i : List ℕ) (bs : List (List ℕ)) (r : Answer) (i' : List ℕ) → Legible i → Plays r i' (played (replay (decode i) bs)) → length i' ≡ image_size
-played_size i bs r i' h p = (played_legible i bs r i' h p).size
 
 module _ (v : View) (b : Begins v) (i : List ℕ) (e : i ≡ encode (fresh_world v)) where
   formed : well_formed (fresh_world v) ≡ true
@@ -114,51 +86,35 @@ module _ (v : View) (b : Begins v) (i : List ℕ) (e : i ≡ encode (fresh_world
   pub begun_played : (bs : List (List ℕ)) (r : Answer) (i' : List ℕ) → Plays r i' (played (replay (decode i) bs)) → Legible i'
   begun_played bs r i' p = played_legible i bs r i' begun_legible p
 
-  pub begun_size : (bs : List (List ℕ)) (r : Answer) (i' : List ℕ) → Plays r i' (played (replay (decode i) bs)) → length i' ≡ image_size
-  begun_size bs r i' p = (begun_played bs r i' p).size
-
   pub begun_world : decode i ≡ fresh_world v
   begun_world = ap decode e ∙ world_decode (fresh_world v) formed
 
-  module _ (j : List ℕ) (place : ℕ) (whole : length j % step_width ≡ 0) (below : place < length j / step_width) where
-    first_steps : steps_of (take (place * step_width) j) ≡ take place (steps_of j)
-    unfolding steps_of
-    first_steps =
-        let d = length-take (place * step_width) j in
-        let c : length (take (place * step_width) j) / step_width ≡ place = omega arith in
-        ap (λ (m : ℕ). steps_in m (take (place * step_width) j)) c ∙ steps_take place (length j / step_width) j (omega arith) (omega arith)
-
-    rest_steps : steps_of (take (length j - (place * step_width + step_width)) (drop (place * step_width + step_width) j)) ≡ drop (suc place) (steps_of j)
-    unfolding steps_of
-    rest_steps =
-        let at : ℕ = place * step_width + step_width in
-        let d = length-drop (place * step_width + step_width) j in
-        let t : take (length j - at) (drop at j) ≡ drop at j = take_all (length j - at) (drop at j) (omega arith) in
-        let g : at ≡ suc place * step_width = omega arith in
-        let c : length (drop at j) / step_width ≡ length j / step_width - suc place = omega arith in
-        ap (λ (l : List ℕ). steps_in (length l / step_width) l) t
-        ∙ ap (λ (m : ℕ). steps_in m (drop at j)) c
-        ∙ ap (λ (m : ℕ). steps_in (length j / step_width - suc place) (drop m j)) g
-        ∙ steps_drop (suc place) (length j / step_width) j (omega arith)
-
+  module _ (bs : List (List ℕ)) (place : ℕ) (below : place < length bs) where
     abbrev before : List (List ℕ)
-    before = take place (steps_of j)
+    before = take place bs
 
     abbrev behind : List (List ℕ)
-    behind = drop (suc place) (steps_of j)
+    behind = drop (suc place) bs
 
     before_count : length before ≡ place
-    before_count = let d = length-take place (steps_of j) in let c = steps_count j in omega arith
+    before_count = let d = length-take place bs in omega arith
 
-    module _ (r : Answer) (i' : List ℕ) (p : Plays r i' (played (replay (decode i) (steps_of (take (place * step_width) j))))) where
-      first_is : replay (decode i) (steps_of (take (place * step_width) j)) ≡ replay (fresh_world v) before
-      first_is = ap₂ replay begun_world first_steps
+    -- as the code lends them
+    behind_is : take (length bs - (place + 1)) (drop (place + 1) bs) ≡ behind
+    behind_is =
+        let d = length-drop (place + 1) bs in
+        let e : place + 1 ≡ suc place = omega arith in
+        take_all (length bs - (place + 1)) (drop (place + 1) bs) (omega arith) ∙ ap (λ (n : ℕ). drop n bs) e
+
+    module _ (r : Answer) (i' : List ℕ) (p : Plays r i' (played (replay (decode i) before))) where
+      first_is : replay (decode i) before ≡ replay (fresh_world v) before
+      first_is = ap (λ (w : World). replay w before) begun_world
 
       first_count : r.steps ≡ (replay (fresh_world v) before).steps
       first_count = p.steps ∙ ap (λ (x : Replayed). x.steps) first_is
 
       -- the first part stopped
-      pub trial_stops : r.steps < place → stopped_by r.refusal ≡ (replay (fresh_world v) (without (steps_of j) place)).refusal
+      pub trial_stops : r.steps < place → stopped_by r.refusal ≡ (replay (fresh_world v) (without bs place)).refusal
       unfolding without
       trial_stops h =
           p.refusal ∙ ap (λ (x : Replayed). x.refusal) first_is
@@ -166,22 +122,22 @@ module _ (v : View) (b : Begins v) (i : List ℕ) (e : i ≡ encode (fresh_world
 
       -- it did not, and the rest follows
       pub trial_ends : place ≤ r.steps → (r' : Answer) (i'' : List ℕ)
-          → Plays r' i'' (played (replay (decode i') (steps_of (take (length j - (place * step_width + step_width)) (drop (place * step_width + step_width) j)))))
-          → stopped_by r'.refusal ≡ (replay (fresh_world v) (without (steps_of j) place)).refusal
+          → Plays r' i'' (played (replay (decode i') (take (length bs - (place + 1)) (drop (place + 1) bs))))
+          → stopped_by r'.refusal ≡ (replay (fresh_world v) (without bs place)).refusal
       unfolding without
       trial_ends h r' i'' q =
           let there : decode i' ≡ (replay (fresh_world v) before).world =
           ap decode (p.image ∙ ap (λ (x : Replayed). encode x.world) first_is) ∙ world_decode (replay (fresh_world v) before).world (replay_kept (fresh_world v) before formed) in
           q.refusal
-          ∙ ap₂ (λ (w : World) (x : List (List ℕ)). (replay w x).refusal) there rest_steps
+          ∙ ap₂ (λ (w : World) (x : List (List ℕ)). (replay w x).refusal) there behind_is
           ∙ sym (replay_on_lem (fresh_world v) before behind (let c = before_count in let k = first_count in omega arith))
 
 -- ---- one step tried
 
 module _ (w : World) (y : Refusal) (s : List ℕ) (n place : ℕ) (held : Held s n) (below : place < n) (o : Option Refusal)
-    (tried : stopped_by o ≡ (replay w (without (steps_of (take (n * step_width) s)) place)).refusal) where
+    {bs : List (List ℕ)} (is : bs ≡ steps_in n s) (tried : stopped_by o ≡ (replay w (without bs place)).refusal) where
   tried_is : stopped_by o ≡ (replay w (without (steps_in n s) place)).refusal
-  tried_is = tried ∙ ap (λ (bs : List (List ℕ)). (replay w (without bs place)).refusal) (steps_taken n s held.fits)
+  tried_is = tried ∙ ap (λ (x : List (List ℕ)). (replay w (without x place)).refusal) is
 
   pub step_stays : false ≡ eqb (stopped_by o) (refusal_number y) → Leaves n s (length s) (dropped (stops_with w (refusal_number y)) (steps_in n s) place)
   unfolding dropped

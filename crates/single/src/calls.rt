@@ -6,8 +6,8 @@ ghost use Rattle.protocol.specs.Clients.{closing};
 ghost use Rattle.single.specs.Calls.{server_call, client_call, administrator_call};
 
 use super::rules::{administrator_rule, client_rule, server_rule};
-use codec::bytes::get16;
-use codec::layout::{ADMINISTRATOR, CLIENT, ENTRY, MESSAGE, SERVER, U16, VIEW};
+use codec::bytes::{array_at, get16};
+use codec::layout::{ADMINISTRATOR, CLIENT, ENTRY, MESSAGE, SERVER, U8, U16, VIEW};
 use codec::records::{
     administrator_plain, client_plain, entry_plain, message_plain, read_administrator, read_client,
     read_entry, read_message, read_server, read_view, server_plain, view_plain,
@@ -34,15 +34,25 @@ const ASKED: usize = NUMBER_AT + U16;
 // What is asked of a client ends with a flag: all answers of the chosen view carry the entry, and the view permits one exchange.
 const ONE_AT: usize = ASKED + ENTRY;
 
+// The width of what is asked, by the machine.
+const SERVER_CALL: usize = ASKED + MESSAGE;
+
+const CLIENT_CALL: usize = ONE_AT + U8;
+
+const ADMINISTRATOR_CALL: usize = ASKED + VIEW;
+
 // "rule u8, flag u8, view u8, 1 zero, message"
-#[tactic(auto, unfolding(crate::specs::Calls::server_call, protocol::specs::Tools::guard, codec::specs::Lists::part))]
+#[tactic(auto, unfolding(crate::specs::Calls::server_call, protocol::specs::Tools::guard))]
 pub fn server_call(server: &[u8], call: &[u8]) -> Result<Reply, Refusal>
     ensures { outcome result ≡ server_call server.now call.now }
 {
-    if server.len() != SERVER || call.len() != ASKED + MESSAGE {
+    let Some(server) = server.as_array() else {
         return Err(Refusal::WrongLength);
-    }
-    let asked = &call[ASKED..ASKED + MESSAGE];
+    };
+    let Some(call) = call.as_array::<SERVER_CALL>() else {
+        return Err(Refusal::WrongLength);
+    };
+    let asked = array_at::<MESSAGE>(call, ASKED);
     if !server_plain(server) || call[SERVER_SPARE_AT] != 0 || !message_plain(asked) {
         return Err(Refusal::Unfit);
     }
@@ -52,14 +62,17 @@ pub fn server_call(server: &[u8], call: &[u8]) -> Result<Reply, Refusal>
 }
 
 // "rule u8, client u8, number u16, entry, one u8"
-#[tactic(auto, unfolding(crate::specs::Calls::client_call, protocol::specs::Tools::guard, codec::specs::Lists::part))]
+#[tactic(auto, unfolding(crate::specs::Calls::client_call, protocol::specs::Tools::guard))]
 pub fn client_call(client: &[u8], call: &[u8]) -> Result<Closing, Refusal>
     ensures { outcome_by closing result ≡ client_call client.now call.now }
 {
-    if client.len() != CLIENT || call.len() != ONE_AT + 1 {
+    let Some(client) = client.as_array() else {
         return Err(Refusal::WrongLength);
-    }
-    let asked = &call[ASKED..ASKED + ENTRY];
+    };
+    let Some(call) = call.as_array::<CLIENT_CALL>() else {
+        return Err(Refusal::WrongLength);
+    };
+    let asked = array_at::<ENTRY>(call, ASKED);
     if !client_plain(client) || !entry_plain(asked) {
         return Err(Refusal::Unfit);
     }
@@ -70,14 +83,17 @@ pub fn client_call(client: &[u8], call: &[u8]) -> Result<Closing, Refusal>
 }
 
 // "rule u8, 1 zero, number u16, view"
-#[tactic(auto, unfolding(crate::specs::Calls::administrator_call, protocol::specs::Tools::guard, codec::specs::Lists::part))]
+#[tactic(auto, unfolding(crate::specs::Calls::administrator_call, protocol::specs::Tools::guard))]
 pub fn administrator_call(administrator: &[u8], call: &[u8]) -> Result<Administrator, Refusal>
     ensures { outcome result ≡ administrator_call administrator.now call.now }
 {
-    if administrator.len() != ADMINISTRATOR || call.len() != ASKED + VIEW {
+    let Some(administrator) = administrator.as_array() else {
         return Err(Refusal::WrongLength);
-    }
-    let asked = &call[ASKED..ASKED + VIEW];
+    };
+    let Some(call) = call.as_array::<ADMINISTRATOR_CALL>() else {
+        return Err(Refusal::WrongLength);
+    };
+    let asked = array_at::<VIEW>(call, ASKED);
     if !administrator_plain(administrator)
         || call[ADMINISTRATOR_SPARE_AT] != 0
         || !view_plain(asked)

@@ -1,4 +1,7 @@
 // Answers of an image are taken.
+// That the image is readable is asked, not held by a struct: behind `&mut` its field would have to be proved again at each
+// return.
+// A number in range stays a number: a type for it would be made and taken apart at each call, with the same goal.
 ghost use Rattle.std.specs.Prelude.{◌≡◌, ◌≤◌, ◌<◌};
 ghost use Rattle.protocol.specs.Sizes.{clients, views};
 ghost use Rattle.protocol.specs.Worlds.{newest as newest_of};
@@ -7,9 +10,10 @@ ghost use Rattle.codec.specs.Images.{encode, decode};
 ghost use Rattle.mail.specs.Images.{Legible, Does};
 ghost use Rattle.takes.specs.Takes.{Takable, Asked, closes_with, linked as linked_of, wrote, end_taken, client_taken};
 
-use super::tally::{gather, gathered, opened};
+use super::tally::{Gathered, gather};
 use administrator_rules::advance;
 use client_rules::{close, close_size};
+use codec::layout::Image;
 use codec::places::{
     load_administrator, load_client, load_message, load_used, load_view, store_administrator,
     store_client, store_message,
@@ -26,15 +30,15 @@ use values::tally::closes;
 
 // "A phase closes when, by the answer just taken, the answers taken with that answer's view t come from at least q(t)
 // different servers.": k is that answer, and size is q(t), the read size or the write size of t.
-fn taken_with(image: &[u8], k: MessageNumber, size: u32) -> Option<Choice>
+fn taken_with(image: &Image, k: MessageNumber, size: u32) -> Option<Choice>
     requires { Takable image.now k.0 }
     ensures { result ≡ closes_with (decode image.now) k.0 size }
 {
     let m = load_message(image, k);
     let q = load_message(image, m.request);
-    let first = gathered(alone(ServerNumber(m.sender)), k, true);
+    let first = Gathered::new(alone(ServerNumber(m.sender)), k, true);
     let answers = gather(image, m.view, q.next, MESSAGES, first);
-    closes(opened(image, answers), size)
+    closes(answers.opened(image), size)
 }
 
 // A message with its mark and its link.
@@ -46,7 +50,7 @@ pub fn linked(m: Message, taken: bool, next: MessageNumber) -> Message
 }
 
 // "a request's next is its newest taken answer": k becomes that.
-fn link(image: &mut [u8], k: MessageNumber)
+fn link(image: &mut Image, k: MessageNumber)
     requires { Takable image.old k.0 }
     ensures { image.new ≡ encode (link_of (decode image.old) k.0) }
 {
@@ -57,7 +61,7 @@ fn link(image: &mut [u8], k: MessageNumber)
 }
 
 // The request r, which is q, is "that of an open phase" or "the END number".
-fn is_open(image: &[u8], r: MessageNumber, q: Message) -> bool
+fn is_open(image: &Image, r: MessageNumber, q: Message) -> bool
     requires { Asked image.now r.0 q }
     ensures { result ≡ open? (decode image.now) r.0 }
 {
@@ -70,7 +74,7 @@ fn is_open(image: &[u8], r: MessageNumber, q: Message) -> bool
 
 // "A reader writes the chosen entry back. A writer writes (count+1, own number, its value).": a is client c with its WRITE
 // next. 10, no number is left.
-fn write_next(image: &mut [u8], k: MessageNumber, c: u8, a: Client) -> Stepped
+fn write_next(image: &mut Image, k: MessageNumber, c: u8, a: Client) -> Stepped
     requires { Takable image.old k.0 × (1 ≤ c) × (c ≤ clients) }
     ensures { Does result image.old image.new (wrote (decode image.old) k.0 c a) }
 {
@@ -82,9 +86,9 @@ fn write_next(image: &mut [u8], k: MessageNumber, c: u8, a: Client) -> Stepped
     Ok(None)
 }
 
-// A phase of client c closes with the entry e, and one says whether a read ends with it: the operation is complete, or its WRITE is
-// next. 11, the closing write would need a count over 4,294,967,295; 10.
-fn close_client(image: &mut [u8], k: MessageNumber, c: u8, e: Entry, one: bool) -> Stepped
+// A phase of client c closes with the entry e, and one says whether a read ends with it: the operation is complete, or its WRITE
+// is next. 11, the closing write would need a count over 4,294,967,295; 10.
+fn close_client(image: &mut Image, k: MessageNumber, c: u8, e: Entry, one: bool) -> Stepped
     requires { Takable image.old k.0 × (1 ≤ c) × (c ≤ clients) }
     ensures { Does result image.old image.new (closes_of (decode image.old) k.0 c e one) }
 {
@@ -101,7 +105,7 @@ fn close_client(image: &mut [u8], k: MessageNumber, c: u8, e: Entry, one: bool) 
 
 // "the answer either closes its phase or leaves it open": the phase of client c. A read ends in one exchange only where the view
 // permits it.
-fn take_client(image: &mut [u8], k: MessageNumber, c: u8) -> Stepped
+fn take_client(image: &mut Image, k: MessageNumber, c: u8) -> Stepped
     requires { Takable image.old k.0 × (1 ≤ c) × (c ≤ clients) }
     ensures { Does result image.old image.new (client_taken (decode image.old) k.0 c) }
 {
@@ -117,7 +121,7 @@ fn take_client(image: &mut [u8], k: MessageNumber, c: u8) -> Stepped
 
 // "t+1 becomes the newest and START t+1 is sent with their largest entry", e. 10. A view that is ended is below 32, so that
 // advance never refuses.
-fn start_view(image: &mut [u8], k: MessageNumber, e: Entry) -> Stepped
+fn start_view(image: &mut Image, k: MessageNumber, e: Entry) -> Stepped
     requires { Takable image.old k.0 × (newest_of (decode image.old) < views) }
     ensures { Does result image.old image.new (starts (decode image.old) k.0 e) }
 {
@@ -132,7 +136,7 @@ fn start_view(image: &mut [u8], k: MessageNumber, e: Entry) -> Stepped
 
 // "When answers tagged t from q(t) different servers are taken, t+1 becomes the newest": t is the newest. "Answers to END with
 // another view are taken and count for nothing."
-fn take_end(image: &mut [u8], k: MessageNumber) -> Stepped
+fn take_end(image: &mut Image, k: MessageNumber) -> Stepped
     requires { Takable image.old k.0 × (newest_of (decode image.old) < views) }
     ensures { Does result image.old image.new (end_taken (decode image.old) k.0) }
 {
@@ -150,7 +154,7 @@ fn take_end(image: &mut [u8], k: MessageNumber) -> Stepped
 }
 
 // "Take: 5, not an answer; 7, taken before, or its request is neither that of an open phase nor the END number"; 11; 10.
-pub fn take(image: &mut [u8], k: MessageNumber) -> Stepped
+pub fn take(image: &mut Image, k: MessageNumber) -> Stepped
     requires { Legible image.old }
     ensures { Does result image.old image.new (take_of (decode image.old) k.0) }
 {

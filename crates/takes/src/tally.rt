@@ -1,13 +1,15 @@
 // The tally of an answer's view along the chain of its request.
-ghost use Rattle.std.specs.Prelude.{◌≡◌, ◌/◌, ◌%◌, ◌^◌, ◌≤◌, length, eqb};
+// That the image is readable is asked, not held by a struct: behind `&mut` its field would have to be proved again at each
+// return.
+ghost use Rattle.std.specs.Prelude.{◌≡◌, ◌/◌, ◌%◌, ◌^◌, ◌≤◌, eqb};
 ghost use Rattle.protocol.specs.Sizes.{messages};
-ghost use Rattle.codec.specs.Layout.{image_size};
 ghost use Rattle.codec.specs.Places.{message_at};
 ghost use Rattle.codec.specs.Images.{decode};
 ghost use Rattle.values.specs.Tallies.{add_answer};
 ghost use Rattle.takes.specs.Takes.{Walk};
 ghost use Rattle.takes.specs.Gathered.{Packs, tally_on, opened as opened_in, Gathers};
 
+use codec::layout::Image;
 use codec::places::load_message;
 use protocol::{Message, MessageNumber, ServerNumber, ServerSet, ViewNumber};
 use values::sets::with;
@@ -19,52 +21,72 @@ const DIFFER: u64 = 4294967296;
 
 const ABOVE: u64 = 2 * DIFFER;
 
-// The servers heard, the answer that leads, and whether all carry one entry, as one number.
-pub fn gathered(seen: ServerSet, best: MessageNumber, one: bool) -> u64
-    ensures { Packs result seen best one }
-{
-    let g = seen.0 as u64 + ABOVE * best.0 as u64;
-    if one { g } else { g + DIFFER }
+// What a walk carries as one number: the servers heard, the answer that leads, and whether all carry one entry.
+#[derive(Clone, Copy)]
+pub struct Gathered {
+    bits: u64,
+    ghost fits: { bits / 2 ^ 33 ≤ messages },
 }
 
-fn seen_in(g: u64) -> ServerSet
-    ensures { result ≡ record { 0 = g % 2 ^ 32 } }
-{
-    ServerSet((g % DIFFER) as u32)
+impl Gathered {
+    pub fn new(seen: ServerSet, best: MessageNumber, one: bool) -> Gathered
+        requires { best.0 ≤ messages }
+        ensures { Packs result.bits seen best one }
+    {
+        let same = seen.0 as u64 + ABOVE * best.0 as u64;
+        let bits = if one { same } else { same + DIFFER };
+        Gathered { bits }
+    }
+
+    fn seen(self) -> ServerSet
+        ensures { result ≡ record { 0 = self.bits % 2 ^ 32 } }
+    {
+        ServerSet((self.bits % DIFFER) as u32)
+    }
+
+    fn best(self) -> MessageNumber
+        ensures { result ≡ record { 0 = self.bits / 2 ^ 33 } }
+    {
+        MessageNumber((self.bits / ABOVE) as u16)
+    }
+
+    fn one(self) -> bool
+        ensures { result ≡ eqb (self.bits / 2 ^ 32 % 2) 0 }
+    {
+        self.bits / DIFFER % 2 == 0
+    }
+
+    // One older answer more, n, which is m.
+    fn with_answer(self, image: &Image, n: MessageNumber, m: Message) -> Gathered
+        requires { (n.0 ≤ messages) × (m ≡ message_at image.now n.0) }
+        ensures { Gathers (decode image.now) result.bits (add_answer (opened_in (decode image.now) self.bits) m.view.0 m) }
+    {
+        let before = self.opened(image);
+        let best = self.best();
+        let heard = with(before.seen, ServerNumber(m.sender));
+        let leads = leader(best, before.best, n, m.entry);
+        let one = still_one(before.one, before.best, m.entry);
+        Gathered::new(heard, leads, one)
+    }
+
+    // The tally that it stands for.
+    pub fn opened(self, image: &Image) -> Tally
+        ensures { result ≡ opened_in (decode image.now) self.bits }
+    {
+        Tally {
+            seen: self.seen(),
+            best: load_message(image, self.best()).entry,
+            one: self.one(),
+        }
+    }
 }
 
-fn best_in(g: u64) -> MessageNumber
-    requires { g / 2 ^ 33 ≤ messages }
-    ensures { result ≡ record { 0 = g / 2 ^ 33 } }
-{
-    MessageNumber((g / ABOVE) as u16)
-}
-
-fn one_in(g: u64) -> bool
-    ensures { result ≡ eqb (g / 2 ^ 32 % 2) 0 }
-{
-    g / DIFFER % 2 == 0
-}
-
-// One older answer more, n, which is m.
-fn with_answer(image: &[u8], g: u64, n: MessageNumber, m: Message) -> u64
-    requires { (length image.now ≡ image_size) × (g / 2 ^ 33 ≤ messages) × (n.0 ≤ messages) × (m ≡ message_at image.now n.0) }
-    ensures { Gathers (decode image.now) result (add_answer (opened_in (decode image.now) g) m.view.0 m) }
-{
-    let before = opened(image, g);
-    let best = best_in(g);
-    let heard = with(before.seen, ServerNumber(m.sender));
-    let leads = leader(best, before.best, n, m.entry);
-    let one = still_one(before.one, before.best, m.entry);
-    gathered(heard, leads, one)
-}
-
-// "From a request the links are followed until zero": the tally of view t from message n on, with the links still allowed; g has what
-// the answers before it show. An answer of another view changes nothing. All that it carries and answers is numbers, which stay in
-// registers.
-pub fn gather(image: &[u8], t: ViewNumber, n: MessageNumber, left: u16, g: u64) -> u64
-    requires { Walk image.now left n.0 × (g / 2 ^ 33 ≤ messages) }
-    ensures { Gathers (decode image.now) result (tally_on (decode image.now) t.0 g left n.0) }
+// "From a request the links are followed until zero": the tally of view t from message n on, with the links still allowed; g has
+// what the answers before it show. An answer of another view changes nothing. All that it carries and answers is numbers, which
+// stay in registers.
+pub fn gather(image: &Image, t: ViewNumber, n: MessageNumber, left: u16, g: Gathered) -> Gathered
+    requires { Walk image.now left n.0 }
+    ensures { Gathers (decode image.now) result.bits (tally_on (decode image.now) t.0 g.bits left n.0) }
 {
     if n.0 == 0 || left == 0 {
         return g;
@@ -73,17 +95,5 @@ pub fn gather(image: &[u8], t: ViewNumber, n: MessageNumber, left: u16, g: u64) 
     if m.view.0 != t.0 {
         return gather(image, t, m.next, left - 1, g);
     }
-    gather(image, t, m.next, left - 1, with_answer(image, g, n, m))
-}
-
-// The tally that a number stands for.
-pub fn opened(image: &[u8], g: u64) -> Tally
-    requires { (length image.now ≡ image_size) × (g / 2 ^ 33 ≤ messages) }
-    ensures { result ≡ opened_in (decode image.now) g }
-{
-    Tally {
-        seen: seen_in(g),
-        best: load_message(image, best_in(g)).entry,
-        one: one_in(g),
-    }
+    gather(image, t, m.next, left - 1, g.with_answer(image, n, m))
 }

@@ -1,4 +1,6 @@
 // Restarts of the administrator on an image.
+// That the image is readable is asked, not held by a struct: behind `&mut` its field would have to be proved again at each
+// return.
 ghost use Rattle.std.specs.Prelude.{◌≡◌, Ok, None};
 ghost use Rattle.protocol.specs.Worlds.{as_sent};
 ghost use Rattle.protocol.specs.Chains.{follow};
@@ -9,6 +11,7 @@ ghost use Rattle.takes.specs.Takes.{Walk};
 ghost use Rattle.view_changes.specs.Restarts.{Emptying, Restarted};
 
 use administrator_rules::restart;
+use codec::layout::Image;
 use codec::places::{
     load_administrator, load_message, store_administrator, store_message, store_view,
 };
@@ -17,9 +20,9 @@ use protocol::limits::MESSAGES;
 use protocol::{Administrator, MessageNumber, View, ViewNumber};
 use takes::take::linked;
 
-// "From a request the links are followed until zero": the answers from n on, with the links still allowed, are as they were sent, the
-// last of them first.
-fn unlink(image: &mut [u8], n: MessageNumber, left: u16)
+// "From a request the links are followed until zero": the answers from n on, with the links still allowed, are as they were sent,
+// the last of them first.
+fn unlink(image: &mut Image, n: MessageNumber, left: u16)
     requires { Walk image.old left n.0 }
     ensures { image.new ≡ encode (as_sent (decode image.old) (follow (decode image.old) left n.0)) }
 {
@@ -32,7 +35,7 @@ fn unlink(image: &mut [u8], n: MessageNumber, left: u16)
 }
 
 // "empties the chain of the open END and marks its answers untaken": r is the END's number.
-fn empty(image: &mut [u8], r: MessageNumber)
+fn empty(image: &mut Image, r: MessageNumber)
     requires { Emptying image.old r.0 }
     ensures { image.new ≡ encode (emptied (decode image.old) r.0) }
 {
@@ -41,9 +44,9 @@ fn empty(image: &mut [u8], r: MessageNumber)
     store_message(image, r, linked(q, false, MessageNumber(0)));
 }
 
-// A restart that its rule accepts: a is the administrator's record, r its END. "A value other than 0 is new member bits for the pending
-// view, with f, and r in who": v, unless it has none.
-fn renew(image: &mut [u8], a: Administrator, r: MessageNumber, v: View)
+// A restart that its rule accepts: a is the administrator's record, r its END. "A value other than 0 is new member bits for the
+// pending view, with f, and r in who": v, unless it has none.
+fn renew(image: &mut Image, a: Administrator, r: MessageNumber, v: View)
     requires { Restarted image.old v a r.0 }
     ensures { Does (Ok None) image.old image.new (restarts_of (decode image.old) v) }
 {
@@ -55,7 +58,7 @@ fn renew(image: &mut [u8], a: Administrator, r: MessageNumber, v: View)
 }
 
 // "7, nothing is being ended; then 8."
-pub fn restarts(image: &mut [u8], v: View) -> Stepped
+pub fn restarts(image: &mut Image, v: View) -> Stepped
     requires { Legible image.old }
     ensures { Does result image.old image.new (restarts_of (decode image.old) v) }
 {

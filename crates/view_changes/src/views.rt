@@ -1,16 +1,19 @@
 // New views of an image.
+// That the image is readable is asked, not held by a struct: behind `&mut` its field would have to be proved again at each
+// return.
 ghost use Rattle.protocol.specs.Steps.{new_view};
 ghost use Rattle.codec.specs.Images.{decode};
 ghost use Rattle.mail.specs.Images.{Legible, Does};
 
 use administrator_rules::call;
+use codec::layout::Image;
 use codec::places::{load_administrator, load_used, store_administrator, store_view};
 use mail::{Stepped, next_number, request, send};
 use protocol::{Entry, MessageKind, MessageNumber, View, ViewNumber};
 
 // "New view t+1, t being the newest: its members and f are recorded and END t is sent." "4, ending; 8, size rule broken or
 // newest is 32; 10."
-pub fn new_view(image: &mut [u8], v: View) -> Stepped
+pub fn new_view(image: &mut Image, v: View) -> Stepped
     requires { Legible image.old }
     ensures { Does result image.old image.new (new_view (decode image.old) v) }
 {

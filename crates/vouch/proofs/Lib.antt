@@ -1,6 +1,5 @@
 pub mod Seen
 pub mod Turns
-pub mod Calls
 pub mod Examples
 pub mod Counting
 pub mod Best

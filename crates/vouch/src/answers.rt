@@ -1,13 +1,19 @@
 // A list of answers as lent bytes, by the answer's number from 1.
+// A number in range stays a number: a type for it would be made and taken apart at each call, with the same goal.
 ghost use Rattle.std.specs.Prelude.{◌≡◌, ◌≤◌};
 ghost use Rattle.vouch.specs.Answers.{answer_count, answerer, entry_shown};
 
-use codec::layout::ENTRY;
+use codec::bytes::array_at;
+use codec::layout::{ENTRY, U8};
 use codec::records::read_entry;
 use protocol::{Entry, ServerNumber};
 
 // An answer is server u8, 3 zero bytes, entry.
-pub const SHOWN_AT: usize = 4;
+pub const SPARE_AT: usize = U8;
+
+pub const SPARE: usize = 3;
+
+pub const SHOWN_AT: usize = SPARE_AT + SPARE;
 
 pub const ANSWER: usize = SHOWN_AT + ENTRY;
 
@@ -28,11 +34,10 @@ pub fn answerer(answers: &[u8], k: usize) -> ServerNumber
 }
 
 // The entry of answer number k.
-#[tactic(auto, using(codec::specs::Lists::span), unfolding(crate::specs::Answers::entry_shown))]
+#[tactic(auto, unfolding(crate::specs::Answers::entry_shown))]
 pub fn entry_shown(answers: &[u8], k: usize) -> Entry
     requires { (1 ≤ k) × (k ≤ answer_count answers.now) }
     ensures { result ≡ entry_shown answers.now k }
 {
-    let at = ANSWER * (k - 1) + SHOWN_AT;
-    read_entry(&answers[at..at + ENTRY])
+    read_entry(array_at(answers, ANSWER * (k - 1) + SHOWN_AT))
 }

@@ -1,8 +1,7 @@
 // The two choices on lent bytes: for every list of answers and every number.
-ghost use Rattle.std.specs.Prelude.{◌≡◌, length};
+ghost use Rattle.std.specs.Prelude.{◌≡◌};
 ghost use Rattle.protocol.specs.Refusals.{code};
-ghost use Rattle.codec.specs.Layout.{entry_width};
-ghost use Rattle.vouch.specs.Checks.{lengths_fit, qualified, vouch_on, threshold_on, Leaves};
+ghost use Rattle.vouch.specs.Checks.{qualified, vouch_on, threshold_on, Leaves};
 
 use super::answers::ANSWER;
 use super::checks::{largest_fits, list_fits};
@@ -11,17 +10,9 @@ use codec::layout::ENTRY;
 use codec::records::write_entry;
 use protocol::{Entry, Refusal};
 
-// Answers of 16 bytes each, and room for an entry.
-fn lengths_fit(answers: &[u8], room: &[u8]) -> bool
-    ensures { result ≡ lengths_fit answers.now room.now }
-{
-    answers.len() % ANSWER == 0 && room.len() == ENTRY
-}
-
 // The entry chosen is written; 16, no entry qualifies.
-#[tactic(auto, using(crate::proofs::Calls::written))]
-fn write_choice(room: &mut [u8], chosen: Option<Entry>) -> Result<(), Refusal>
-    requires { length room.old ≡ entry_width }
+#[tactic(auto, using(codec::specs::Lists::put_all, codec::specs::Records::length_entry_bytes))]
+fn write_choice(room: &mut [u8; ENTRY], chosen: Option<Entry>) -> Result<(), Refusal>
     ensures { Leaves (code result) room.new room.old (qualified chosen) }
 {
     let Some(e) = chosen else {
@@ -32,10 +23,14 @@ fn write_choice(room: &mut [u8], chosen: Option<Entry>) -> Result<(), Refusal>
 }
 
 // The first choice: 1, 14, 16.
+#[tactic(auto, unfolding(crate::specs::Checks::vouch_on, protocol::specs::Tools::guard))]
 pub fn vouch(answers: &[u8], n: u32, b: u32, room: &mut [u8]) -> Result<(), Refusal>
     ensures { Leaves (code result) room.new room.old (vouch_on answers.now n b room.old) }
 {
-    if !lengths_fit(answers, room) {
+    let Some(room) = room.as_mut_array() else {
+        return Err(Refusal::WrongLength);
+    };
+    if answers.len() % ANSWER != 0 {
         return Err(Refusal::WrongLength);
     }
     if !list_fits(answers, n, b) {
@@ -46,6 +41,7 @@ pub fn vouch(answers: &[u8], n: u32, b: u32, room: &mut [u8]) -> Result<(), Refu
 }
 
 // The second choice, for thresholds; largest is the largest permitted b: 1, 14, 16.
+#[tactic(auto, unfolding(crate::specs::Checks::threshold_on, protocol::specs::Tools::guard))]
 pub fn vouch_threshold(
     answers: &[u8],
     n: u32,
@@ -55,7 +51,10 @@ pub fn vouch_threshold(
 ) -> Result<(), Refusal>
     ensures { Leaves (code result) room.new room.old (threshold_on answers.now n b largest room.old) }
 {
-    if !lengths_fit(answers, room) {
+    let Some(room) = room.as_mut_array() else {
+        return Err(Refusal::WrongLength);
+    };
+    if answers.len() % ANSWER != 0 {
         return Err(Refusal::WrongLength);
     }
     if !list_fits(answers, n, b) || !largest_fits(n, b, largest) {

@@ -1,30 +1,24 @@
 // The clauses of refusal 14.
-ghost use Rattle.std.specs.Prelude.{◌≡◌, ◌+◌, ◌≤◌, length};
+// A number in range stays a number: a type for it would be made and taken apart at each call, with the same goal.
+ghost use Rattle.std.specs.Prelude.{◌≡◌, ◌≤◌};
 ghost use Rattle.vouch.specs.Answers.{answer_count};
-ghost use Rattle.vouch.specs.Checks.{three_clear, values_fit, not_before, numbered, answer_fits, answers_fit, sizes_fit, largest_fits, list_fits};
+ghost use Rattle.vouch.specs.Checks.{values_fit, not_before, numbered, answer_fits, answers_fit, sizes_fit, largest_fits, list_fits};
 
-use super::answers::{ANSWER, SHOWN_AT, answerer, count, entry_shown};
+use super::answers::{ANSWER, SHOWN_AT, SPARE, SPARE_AT, answerer, count, entry_shown};
+use codec::bytes::are_zero;
+use codec::layout::{ENTRY_SPARE, ENTRY_SPARE_AT};
 use protocol::limits::SERVERS;
 use values::entries::entry_fits;
 
-// Three bytes from at on are zero.
-#[tactic(auto, unfolding(crate::specs::Checks::three_clear))]
-fn three_clear(b: &[u8], at: usize) -> bool
-    requires { at + 3 ≤ length b.now }
-    ensures { result ≡ three_clear b.now at }
-{
-    b[at] == 0 && b[at + 1] == 0 && b[at + 2] == 0
-}
-
 // The entry of answer number k has its values, and the spare bytes are zero.
-#[tactic(auto, unfolding(crate::specs::Checks::values_fit))]
+#[tactic(auto, unfolding(crate::specs::Checks::values_fit, crate::specs::Checks::three_clear, codec::specs::Bytes::zeros))]
 fn values_fit(answers: &[u8], k: usize) -> bool
     requires { (1 ≤ k) × (k ≤ answer_count answers.now) }
     ensures { result ≡ values_fit answers.now k }
 {
     let at = ANSWER * (k - 1);
-    three_clear(answers, at + 1)
-        && three_clear(answers, at + SHOWN_AT + 5)
+    are_zero(answers, at + SPARE_AT, SPARE)
+        && are_zero(answers, at + SHOWN_AT + ENTRY_SPARE_AT, ENTRY_SPARE)
         && entry_fits(entry_shown(answers, k))
 }
 
@@ -69,13 +63,12 @@ fn sizes_fit(n: u32, b: u32) -> bool
 
 // "the largest b under b or over (n-1)/4"
 pub fn largest_fits(n: u32, b: u32, largest: u32) -> bool
-    requires { 1 ≤ n }
     ensures { result ≡ largest_fits n b largest }
 {
-    b <= largest && largest <= (n - 1) / 4
+    b <= largest && largest <= n.saturating_sub(1) / 4
 }
 
-// The clauses of both choices; then there is a server.
+// The clauses of both choices.
 #[tactic(auto, unfolding(crate::specs::Checks::list_fits))]
 pub fn list_fits(answers: &[u8], n: u32, b: u32) -> bool
     ensures { result ≡ list_fits answers.now n b }

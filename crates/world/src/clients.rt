@@ -1,4 +1,7 @@
 // A client begins an operation, or gives it up.
+// That the image is readable is asked, not held by a struct: behind `&mut` its field would have to be proved again at each
+// return.
+// A number in range stays a number: a type for it would be made and taken apart at each call, with the same goal.
 ghost use Rattle.std.specs.Prelude.{◌≤◌};
 ghost use Rattle.protocol.specs.Sizes.{clients};
 ghost use Rattle.protocol.specs.Steps.{begins as begins_on, gives_up};
@@ -6,12 +9,13 @@ ghost use Rattle.codec.specs.Images.{decode};
 ghost use Rattle.mail.specs.Images.{Legible, Does};
 
 use client_rules::{begin, give_up};
+use codec::layout::Image;
 use codec::places::{load_client, load_used, store_client};
 use mail::{Stepped, next_number, request, send};
 use protocol::{Entry, MessageKind, MessageNumber, ViewNumber};
 
 // "Write, read: 4, client not idle; 10"
-pub fn begins(image: &mut [u8], c: u8, kind: u8, value: u32) -> Stepped
+pub fn begins(image: &mut Image, c: u8, kind: u8, value: u32) -> Stepped
     requires { Legible image.old × (1 ≤ c) × (c ≤ clients) }
     ensures { Does result image.old image.new (begins_on (decode image.old) c kind value) }
 {
@@ -25,7 +29,7 @@ pub fn begins(image: &mut [u8], c: u8, kind: u8, value: u32) -> Stepped
 }
 
 // "Giving up an operation": 12, the client is idle.
-pub fn gives_up(image: &mut [u8], c: u8) -> Stepped
+pub fn gives_up(image: &mut Image, c: u8) -> Stepped
     requires { Legible image.old × (1 ≤ c) × (c ≤ clients) }
     ensures { Does result image.old image.new (gives_up (decode image.old) c) }
 {

@@ -1,19 +1,21 @@
 // One step on an image: check 3, then by kind; on any image and any bytes.
-ghost use Rattle.std.specs.Prelude.{true, ◌≡◌, length};
+// That the image is readable is asked, not held by a struct: tried, each contract then also had to say that the image that comes
+// back is the one lent.
+ghost use Rattle.std.specs.Prelude.{true, ◌≡◌};
 ghost use Rattle.protocol.specs.Steps.{fields_fit, perform as perform_on, step as step_of, view_asked};
-ghost use Rattle.protocol.specs.Runs.{step_width, step_of as step_in};
+ghost use Rattle.protocol.specs.Runs.{step_of as step_in};
 ghost use Rattle.codec.specs.Images.{decode};
 ghost use Rattle.image.specs.Steps.{step_on};
 ghost use Rattle.mail.specs.Images.{Legible, Does};
 
 use super::clients::{begins, gives_up};
-use codec::layout::{IMAGE, STEP};
+use codec::layout::{Image, STEP};
 use codec::records::read_step;
 use deliveries::servers::{deliver, false_answer, fault};
 use fields::check::fields_fit;
 use mail::Stepped;
 use protocol::{Operation, Refusal, ServerNumber, ServerSet, Step, StepKind, View};
-use readable::readable::readable;
+use readable::readable::scanned;
 use takes::take::take;
 use view_changes::restarts::restarts;
 use view_changes::views::new_view;
@@ -31,7 +33,7 @@ fn view_asked(st: Step) -> View
 
 // "1 write ... 2 read ... 3 deliver ... 4 take ... 5 fault ... 6 false answer ... 7 new view"; 8, giving up; 9, the administrator
 // restarted. Check 3 has passed, so that the kind is one of these.
-fn perform(image: &mut [u8], st: Step) -> Stepped
+fn perform(image: &mut Image, st: Step) -> Stepped
     requires { Legible image.old × (fields_fit st ≡ true) }
     ensures { Does result image.old image.new (perform_on (decode image.old) st) }
 {
@@ -53,8 +55,8 @@ fn perform(image: &mut [u8], st: Step) -> Stepped
 }
 
 // A step on a readable image, which stays readable.
-pub fn advance(image: &mut [u8], bytes: &[u8]) -> Stepped
-    requires { Legible image.old × (length bytes.now ≡ step_width) }
+pub fn advance(image: &mut Image, bytes: &[u8; STEP]) -> Stepped
+    requires { Legible image.old }
     ensures { Does result image.old image.new (step_of (decode image.old) (step_in bytes.now)) }
 {
     let st = read_step(bytes);
@@ -64,15 +66,25 @@ pub fn advance(image: &mut [u8], bytes: &[u8]) -> Stepped
     perform(image, st)
 }
 
+// A step on the bytes of an image: "2, unreadable; 3 ... Then by kind".
+fn tested(image: &mut Image, bytes: &[u8; STEP]) -> Stepped
+    ensures { Does result image.old image.new (step_on image.old bytes.now) }
+{
+    if !scanned(image) {
+        return Err(Refusal::Unreadable);
+    }
+    advance(image, bytes)
+}
+
 // "Any step: 1, image or step of wrong length; 2, unreadable; 3 ... Then by kind": for every image and every step.
 pub fn step(image: &mut [u8], bytes: &[u8]) -> Stepped
     ensures { Does result image.old image.new (step_on image.old bytes.now) }
 {
-    if image.len() != IMAGE || bytes.len() != STEP {
+    let Some(image) = image.as_mut_array() else {
         return Err(Refusal::WrongLength);
-    }
-    if !readable(image) {
-        return Err(Refusal::Unreadable);
-    }
-    advance(image, bytes)
+    };
+    let Some(bytes) = bytes.as_array() else {
+        return Err(Refusal::WrongLength);
+    };
+    tested(image, bytes)
 }

@@ -112,8 +112,7 @@ const FIRST: usize = 2 * U32;
 const HALF: u64 = 4294967296;
 
 // The step named by a replay that was watched, unless it was refused with 1 or 2.
-fn write_first(first: &mut [u8], done: Watched)
-    requires { length first.old ≡ first_width }
+fn write_first(first: &mut [u8; FIRST], done: Watched)
     ensures { first.new ≡ first_in first.old (stopped_by done.replayed.refusal) (number_or_zero done.first) }
 {
     let stop = stopped_by(done.replayed);
@@ -133,9 +132,9 @@ pub extern "C" fn zw_watch(image: &mut [u8], journal: &[u8], first: &mut [u8]) -
         × (image.new ≡ (watch_lent image.old journal.now first.old).played.image)
         × (first.new ≡ (watch_lent image.old journal.now first.old).first) }
 {
-    if first.len() != FIRST {
+    let Some(first) = first.as_mut_array() else {
         return Refusal::WrongLength.number() as u64;
-    }
+    };
     let done = watch(image, journal);
     write_first(first, done);
     packed_replay(done.replayed)

@@ -19,6 +19,6 @@ returns c =
     let n = c.unwrap_or-n.result in
     c.put32-2.ensures
     ∙ ap (λ (i : List ℕ). put i 4 (le32 (n / 2 ^ 32))) c.put32.ensures
-    ∙ first_put a.first.now n c.requires
+    ∙ first_put a.first.now n c.told-first
     ∙ first_told a.first.now c.stopped_by-stop.result n c.if-stop-eq1.false c.if-stop-eq2.false
     ∙ ap₂ (first_in a.first.now) c.stopped_by-stop.ensures (c.unwrap_or-n.ensures ∙ number_is a.done.first)

@@ -1,4 +1,4 @@
-use Rattle.std.proofs.Common.{ℕ, List, ◌≡◌, ◌+◌, ◌-◌, arith, rules, sym, ap}
+use Rattle.std.proofs.Common.{ℕ, List, ◌≡◌, ◌+◌, ◌-◌, arith, sym, ap}
 use Rattle.codec.specs.Places.{holder_at}
 use Rattle.deliveries.specs.Holders.{raised, raised_start, raised_more, raised_low, raise_fits}
 use Rattle.deliveries.proofs.holders.raise.Goals as goal
@@ -6,7 +6,7 @@ use Rattle.deliveries.proofs.holders.raise.Goals as goal
 pub loop-number-init : goal.loop-number-init
 loop-number-init c =
     let a = c.args in
-    (omega arith, omega arith, sym (raised_start a.image.now a.keys.0), c.requires.size)
+    (omega arith, omega arith, sym (raised_start a.image.now a.keys.0))
 
 pub overflow_add-n : goal.overflow_add-n
 overflow_add-n c =
@@ -28,5 +28,4 @@ loop-number-preserved c =
       omega arith,
       omega (arith, l.invariant, c.loop-number-test.true),
       rw (next, raised_more a.image.now a.keys.0 n, same, ← l.invariant.2, ← c.load_holders-n.ensures, ← c.has.ensures) c.store_holders.ensures,
-      search rules,
     )

@@ -8,10 +8,10 @@ pub returns-then-not-present : goal.returns-then-not-present
 returns-then-not-present c = absent c.requires.0 c.args.s.0 c.args.n.0 (sym c.if-not-present.ensures)
 
 pub load_message-m-requires : goal.load_message-m-requires
-load_message-m-requires c = (c.requires.0.size, sent_low c.requires.0 _ (sym c.if-not-present.ensures))
+load_message-m-requires c = sent_low c.requires.0 _ (sym c.if-not-present.ensures)
 
 pub is_member-requires : goal.is_member-requires
-is_member-requires c = (c.requires.0, tag_low c.requires.0 _ _ c.load_message-m.ensures (sym c.if-not-present.ensures))
+is_member-requires c = tag_low c.requires.0 _ _ c.load_message-m.ensures (sym c.if-not-present.ensures)
 
 pub returns-in_err-served : goal.returns-in_err-served
 returns-in_err-served c =

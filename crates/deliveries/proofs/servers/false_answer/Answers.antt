@@ -9,7 +9,7 @@ returns-then-not-present c =
     let a = c.args in unasked c.requires.0 a.s.0 a.t.0 a.n.0 a.source.0 (sym c.if-not-present.ensures)
 
 pub load_message-asked-requires : goal.load_message-asked-requires
-load_message-asked-requires c = (c.requires.0.size, sent_low c.requires.0 _ (sym c.if-not-present.ensures))
+load_message-asked-requires c = sent_low c.requires.0 _ (sym c.if-not-present.ensures)
 
 pub returns-in_err-may_answer : goal.returns-in_err-may_answer
 returns-in_err-may_answer c =

@@ -6,7 +6,7 @@ pub returns-then-n-eq0 : goal.returns-then-n-eq0
 returns-then-n-eq0 c = search (source_none, rules) depth 7 fits 4000
 
 pub load_message-requires : goal.load_message-requires
-load_message-requires c = (c.requires.size, sent_low c.requires _ (sym c.if-present.ensures))
+load_message-requires c = sent_low c.requires _ (sym c.if-present.ensures)
 
 pub returns-then-present : goal.returns-then-present
 returns-then-present c = c.is.ensures ∙ source_is c.requires _ _ c.if-n-eq0.false (sym c.if-present.ensures) c.load_message.ensures

@@ -1,14 +1,17 @@
-use Rattle.std.proofs.Common.{subst, sym}
-use Rattle.image.specs.Steps.{Played}
-use Rattle.journal.specs.Replays.{Plays, begun, begun_replay, unbegun}
+use Rattle.protocol.specs.declared.refusals.Refusal.TheVariants.{WrongLength}
+use Rattle.journal.specs.Replays.{unbegun, not_whole, wrong_image, wrong_journal, whole_chunks}
 use Rattle.journal.proofs.replay.replay.Goals as goal
 
-pub play-requires : goal.play-requires
-play-requires c = begun c.args.image.now c.args.journal.now c.in-Ok.ensures
+pub returns-in_default : goal.returns-in_default
+returns-in_default c = unbegun WrongLength c.args.image.now c.refused.ensures (wrong_image c.args.image.now c.args.journal.now c.in_default.ensures.cases)
 
-pub returns-in-Ok : goal.returns-in-Ok
-returns-in-Ok c =
-    subst (λ (p : Played). Plays c.play.result c.play.new.image p) (sym (begun_replay c.args.image.now c.args.journal.now c.in-Ok.ensures)) c.play.ensures
+pub returns-then-not-is_empty : goal.returns-then-not-is_empty
+returns-then-not-is_empty c =
+    let a = c.args in let h = c.in-Some.ensures.cases in
+    rw (h.same) (unbegun WrongLength a.image.now c.refused-then-not-is_empty.ensures
+    (wrong_journal a.image.now a.journal.now h.long (not_whole c.as_chunks.ensures.back_len c.if-not-is_empty.ensures)))
 
-pub returns-in-Err : goal.returns-in-Err
-returns-in-Err c = unbegun c.args.image.now c.args.journal.now _ c.in-Err.ensures
+pub returns : goal.returns
+returns c =
+    let a = c.args in let h = c.in-Some.ensures.cases in
+    rw (whole_chunks a.image.now a.journal.now h.long c.as_chunks.ensures.back_len c.if-not-is_empty.ensures c.as_chunks.ensures.front, ← h.same) c.tested.ensures

@@ -1,11 +1,5 @@
-use Rattle.std.proofs.Common.{◌≡◌, ◌*◌, drop}
-use Rattle.std.specs.Slice.Iter.{chunks_exact_rest, chunks_exact_size}
-use Rattle.protocol.specs.Runs.{step_width}
 use Rattle.journal.proofs.Watches.{Watching}
 use Rattle.journal.proofs.watch.observe.Given as goal
 
-abbrev pub invariant-loop-step : goal.invariant-loop-step
-invariant-loop-step l =
-    Watching l.initial.image l.journal l.image (l.steps * step_width) l.first
-    × (chunks_exact_rest l.step-iterator ≡ drop (l.steps * step_width) l.journal)
-    × (chunks_exact_size l.step-iterator ≡ step_width)
+abbrev pub invariant-loop-steps : goal.invariant-loop-steps
+invariant-loop-steps l = Watching l.initial.image l.journal l.image l.steps l.first

@@ -11,5 +11,5 @@ returns-clause-all c used =
     let i = c.args.image.now in
     let u = c.args.used in
     let e : c.zero_bytes.result ≡ zero_bytes (drop (message_place (u + 1)) i) = grind (arith, common_steps) in
-    beyond_zero i c.requires.0 (λ k. (c.type_inv.image k).fits) u used c.requires.1
+    beyond_zero i c.told-image c.fits-image u used c.requires
     ∙ ap (λ (t : Bool). all_to (message_ok i) u && t) (sym e)

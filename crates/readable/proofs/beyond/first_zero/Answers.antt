@@ -5,4 +5,4 @@ use Rattle.readable.proofs.beyond.first_zero.Goals as goal
 pub returns : goal.returns
 returns c =
     let i = c.args.image.now in
-    c.zero_bytes.ensures ∙ ap zero_bytes c.record.ensures.bytes ∙ sym (first_zero i c.requires (λ k. (c.type_inv.image k).fits))
+    c.zero_bytes.ensures ∙ ap zero_bytes c.record.ensures ∙ sym (first_zero i c.told-image c.fits-image)

@@ -1,17 +1,11 @@
-use Rattle.mail.specs.Stored.{image_of, image_size_lem}
-use Rattle.mail.specs.Puts.{message_put}
-use Rattle.takes.specs.Takes.{answer_low, request_low, linked_image}
+use Rattle.takes.specs.Takes.{request_low, linked_image}
 use Rattle.takes.proofs.take.link.Goals as goal
 
 pub load_message-q-requires : goal.load_message-q-requires
-load_message-q-requires c =
-    (c.requires.legible.size, request_low c.requires _ c.load_message-a.ensures)
+load_message-q-requires c = request_low c.requires _ c.load_message-a.ensures
 
 pub store_message-requires-2 : goal.store_message-requires-2
-store_message-requires-2 c = (
-  image_size_lem (message_put (image_of c.requires.legible) _ _ (answer_low c.requires) c.store_message.ensures),
-  request_low c.requires _ c.load_message-a.ensures,
-)
+store_message-requires-2 c = request_low c.requires _ c.load_message-a.ensures
 
 pub returns : goal.returns
 returns c =

@@ -11,7 +11,7 @@ returns-then-not-present c =
     let a = c.args in refuses NoMessage a.image.now _ (take_missing (decode a.image.now) a.k.0 (sym c.if-not-present.ensures))
 
 pub load_message-m-requires : goal.load_message-m-requires
-load_message-m-requires c = (c.requires.size, sent_low c.requires _ c.if-not-present.ensures)
+load_message-m-requires c = sent_low c.requires _ c.if-not-present.ensures
 
 pub returns-then-not-is : goal.returns-then-not-is
 returns-then-not-is c =
@@ -30,7 +30,7 @@ returns-then-m c =
 pub load_message-q-requires : goal.load_message-q-requires
 load_message-q-requires c =
     let h = takable_at c.requires _ c.if-not-present.ensures _ c.load_message-m.ensures c.if-not-is.ensures c.if-m.false in
-    (c.requires.size, request_low h _ c.load_message-m.ensures)
+    request_low h _ c.load_message-m.ensures
 
 pub is_open-requires : goal.is_open-requires
 is_open-requires c =

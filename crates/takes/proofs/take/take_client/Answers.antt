@@ -5,9 +5,7 @@ use Rattle.takes.specs.Takes.{view_low, size_known, once_known, client_open, cli
 use Rattle.takes.proofs.take.take_client.Goals as goal
 
 pub load_view-v-requires : goal.load_view-v-requires
-load_view-v-requires c =
-    let (l, u) = view_low c.requires.0 _ c.load_message-m.ensures in
-    (c.requires.0.legible.size, l, u)
+load_view-v-requires c = view_low c.requires.0 _ c.load_message-m.ensures
 
 pub returns-in_default : goal.returns-in_default
 returns-in_default c =

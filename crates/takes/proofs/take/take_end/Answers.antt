@@ -18,9 +18,7 @@ returns-then-t-load_administrator c =
     does 0 (link w a.k.0) a.image.now _ _ (end_elsewhere w a.k.0 (λ q. c.if-t-load_administrator.true (t ∙ q ∙ sym n))) c.link.ensures
 
 pub load_view-requires : goal.load_view-requires
-load_view-requires c =
-    let (l, u) = view_low c.requires.0 _ c.load_message.ensures in
-    (c.requires.0.legible.size, l, u)
+load_view-requires c = view_low c.requires.0 _ c.load_message.ensures
 
 pub returns-in_default : goal.returns-in_default
 returns-in_default c =

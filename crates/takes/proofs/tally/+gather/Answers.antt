@@ -9,35 +9,32 @@ pub returns-then-n-eq0 : goal.returns-then-n-eq0
 returns-then-n-eq0 t c =
     let a = c.args in
     elim c.then-n-eq0.branch [
-      | then-n-eq0-via-then-n-eq0 w ↦ gathers_zero (decode a.image.now) a.t.0 a.left a.n.0 a.g c.requires.1 w.if-n-eq0.true
-      | then-n-eq0-via-else-n-eq0+then-left-eq0 w ↦ gathers_none (decode a.image.now) a.t.0 a.left a.n.0 a.g c.requires.1 w.if-left-eq0.true
+      | then-n-eq0-via-then-n-eq0 w ↦ gathers_zero (decode a.image.now) a.t.0 a.left a.n.0 a.g.bits a.g.fits w.if-n-eq0.true
+      | then-n-eq0-via-else-n-eq0+then-left-eq0 w ↦ gathers_none (decode a.image.now) a.t.0 a.left a.n.0 a.g.bits a.g.fits w.if-left-eq0.true
     ]
 
 pub load_message-m-requires : goal.load_message-m-requires
-load_message-m-requires t c =
-    let h = c.requires.0 in
-    (h.legible.size, walk_low h (omega arith) (omega arith))
+load_message-m-requires t c = walk_low c.requires (omega arith) (omega arith)
 
 pub gather-requires : goal.gather-requires
 gather-requires t c =
-    (omega arith, (walk_on c.requires.0 (omega arith) (omega arith) _ c.load_message-m.ensures, c.requires.1))
+    (omega arith, walk_on c.requires (omega arith) (omega arith) _ c.load_message-m.ensures)
 
 pub returns-then-m-t : goal.returns-then-m-t
 returns-then-m-t t c =
     let a = c.args in
-    gathers_other c.requires.0 (omega arith) (omega arith) _ c.load_message-m.ensures a.t.0 _ a.g c.if-m-t.true c.gather.ensures
+    gathers_other c.requires (omega arith) (omega arith) _ c.load_message-m.ensures a.t.0 _ a.g.bits c.if-m-t.true c.gather.ensures
 
 pub with_answer-requires : goal.with_answer-requires
 with_answer-requires t c =
-    let h = c.requires.0 in
-    (h.legible.size, c.requires.1, walk_low h (omega arith) (omega arith), c.load_message-m.ensures)
+    (walk_low c.requires (omega arith) (omega arith), c.load_message-m.ensures)
 
 pub gather-requires-2 : goal.gather-requires-2
 gather-requires-2 t c =
-    (omega arith, (walk_on c.requires.0 (omega arith) (omega arith) _ c.load_message-m.ensures, c.with_answer.ensures.low))
+    (omega arith, walk_on c.requires (omega arith) (omega arith) _ c.load_message-m.ensures)
 
 pub returns : goal.returns
 returns t c =
     let a = c.args in
-    gathers_on c.requires.0 (omega (arith, c.if-left-eq0.false)) (omega (arith, c.if-n-eq0.false)) _
-    c.load_message-m.ensures a.t.0 _ a.g c.if-m-t.false _ c.with_answer.ensures c.gather-2.ensures
+    gathers_on c.requires (omega (arith, c.if-left-eq0.false)) (omega (arith, c.if-n-eq0.false)) _
+    c.load_message-m.ensures a.t.0 _ a.g.bits c.if-m-t.false _ c.with_answer.ensures c.gather-2.ensures

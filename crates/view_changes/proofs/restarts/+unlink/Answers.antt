@@ -1,7 +1,6 @@
 use Rattle.std.proofs.Common.{arith}
-use Rattle.mail.specs.Stored.{image_size_lem}
 use Rattle.takes.specs.Takes.{walk_low, walk_on}
-use Rattle.view_changes.specs.Restarts.{as_image, unlink_zero, unlink_none, unlink_on}
+use Rattle.view_changes.specs.Restarts.{unlink_zero, unlink_none, unlink_on}
 use Rattle.view_changes.proofs.restarts.+unlink.Goals.{then-n-eq0-via-then-n-eq0, then-n-eq0-via-else-n-eq0+then-left-eq0}
 use Rattle.view_changes.proofs.restarts.+unlink.Goals as goal
 
@@ -13,9 +12,7 @@ returns-then-n-eq0 t c =
     ]
 
 pub load_message-m-requires : goal.load_message-m-requires
-load_message-m-requires t c =
-    let h = c.requires in
-    (h.legible.size, walk_low h (omega arith) (omega arith))
+load_message-m-requires t c = walk_low c.requires (omega arith) (omega arith)
 
 pub unlink-requires : goal.unlink-requires
 unlink-requires t c =
@@ -23,9 +20,7 @@ unlink-requires t c =
     (omega arith, walk_on h (omega arith) (omega arith) _ c.load_message-m.ensures)
 
 pub store_message-requires : goal.store_message-requires
-store_message-requires t c =
-    let h = c.requires in
-    (image_size_lem (as_image _ h.legible c.unlink.ensures), walk_low h (omega arith) (omega arith))
+store_message-requires t c = walk_low c.requires (omega arith) (omega arith)
 
 pub returns : goal.returns
 returns t c =

@@ -1,8 +1,7 @@
 use Rattle.std.proofs.Common.{arith}
 use Rattle.protocol.specs.Entries.{empty_is}
 use Rattle.std.proofs.lemmas.Result.{err_from_is_err_and}
-use Rattle.mail.specs.Stored.{passed_on, used_low, image_of, image_size_lem}
-use Rattle.mail.specs.Puts.{administrator_put}
+use Rattle.mail.specs.Stored.{passed_on, used_low}
 use Rattle.view_changes.specs.Views.{new_view_no, new_view_full, newest_low, new_view_done}
 use Rattle.view_changes.proofs.views.new_view.Goals as goal
 
@@ -26,7 +25,7 @@ overflow_add-before c =
 pub store_view-requires : goal.store_view-requires
 store_view-requires c =
     let n = newest_low c.requires c.args.v _ _ _ c.load_administrator-before.ensures c.load_used.ensures c.call.ensures _ c.in_ok-a.was in
-    (image_size_lem (administrator_put (image_of c.requires) _ c.store_administrator.ensures), omega arith, omega (arith, n))
+    (omega arith, omega (arith, n))
 
 pub returns : goal.returns
 returns c =
