@@ -13,7 +13,7 @@ use Rattle.protocol.specs.Entries.{empty, same}
 use Rattle.protocol.specs.Clients.{WRITES, READS}
 use Rattle.protocol.specs.Worlds.{World, message}
 use Rattle.protocol.specs.Consistent.{Operation, In, here, there, Before, now, later, Once, none as nobody, one, Stands, completed, surfaced, Ended, Between, Ordered}
-use Rattle.protocol.specs.Runs.{Tracked, unfinished, entry_of, operation}
+use Rattle.protocol.specs.Runs.{Tracked, unfinished, operation_entry, operation}
 use Rattle.protocol.proofs.Laws.Tests.{and_left, and_right, and_both, or_cases, clash, or_first, or_second}
 use Rattle.protocol.proofs.Laws.Entries.{◌≼◌, ≼_count, same_is, is_same}
 use Rattle.protocol.proofs.Laws.Worlds.{sent}
@@ -215,11 +215,11 @@ module _ {w : World} {place : ℕ} {l : List Tracked} (t : Trusted w) (s : Story
       go d (inl h) = record { write = k; sent = h }
       go d (inr h) = write_sent s o d.member k h
 
-  entry_of_lem : {o : Tracked} → In o order → entry_of w o ≡ Some (shows o)
+  entry_of_lem : {o : Tracked} → In o order → operation_entry w o ≡ Some (shows o)
   unfolding stands
   entry_of_lem {o} i = let d = stood i in go d (or_cases _ _ d.test) (ℕ_discrete o.end 0)
     where
-      go : Stood o → (not (unfinished o) ≡ true) ⊎ ((eqb o.kind WRITES && (ltb 0 o.write && returned t s o)) ≡ true) → Dec (o.end ≡ 0) → entry_of w o ≡ Some (shows o)
+      go : Stood o → (not (unfinished o) ≡ true) ⊎ ((eqb o.kind WRITES && (ltb 0 o.write && returned t s o)) ≡ true) → Dec (o.end ≡ 0) → operation_entry w o ≡ Some (shows o)
       go d (inl e) z = entry_done s o (finished o e)
       go d (inr e) (yes z) = entry_open s o z (eqb-true _ _ (and_left _ _ e)) (ltb-true _ _ (and_left _ _ (and_right (eqb o.kind WRITES) _ e)))
       go d (inr e) (no z) = entry_done s o (omega arith)
@@ -283,7 +283,7 @@ module _ {w : World} {place : ℕ} {l : List Tracked} (t : Trusted w) (s : Story
   unfolding operation
   op_kind o = refl
 
-  op_entry : (o : Tracked) → (op o).entry ≡ entry_of w o
+  op_entry : (o : Tracked) → (op o).entry ≡ operation_entry w o
   unfolding operation
   op_entry o = refl
 
@@ -314,8 +314,8 @@ module _ {w : World} {place : ℕ} {l : List Tracked} (t : Trusted w) (s : Story
   unfolding stands
   done_stands o h = or_first _ _ (is_finished o h)
 
-  entry_none : (o : Tracked) → o.end ≡ 0 → o.write ≡ 0 → entry_of w o ≡ None
-  unfolding entry_of
+  entry_none : (o : Tracked) → o.end ≡ 0 → o.write ≡ 0 → operation_entry w o ≡ None
+  unfolding operation_entry
   entry_none o h g = rw (eq-eqb o.end 0 h) (go (eqb o.kind WRITES))
     where
       go : (b : Bool) → if (b && ltb 0 o.write) (Some (message w o.write).entry) None ≡ None
@@ -335,7 +335,7 @@ module _ {w : World} {place : ℕ} {l : List Tracked} (t : Trusted w) (s : Story
           f : 1 ≤ x.end
           f = omega (arith, r.completed, ap (λ (y : Operation). y.end) q, op_end x)
 
-          shown : Some (shows x) ≡ entry_of w o
+          shown : Some (shows x) ≡ operation_entry w o
           shown = sym (entry_done s x f) ∙ sym (op_entry x) ∙ ap (λ (y : Operation). y.entry) q ∙ r.same ∙ op_entry o
 
           at : Dec (o.write ≡ 0) → In o order

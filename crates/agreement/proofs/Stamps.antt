@@ -12,7 +12,7 @@ use Rattle.protocol.specs.Entries.{count_of, writer_of}
 use Rattle.protocol.specs.Clients.{WRITES}
 use Rattle.protocol.specs.Worlds.{World, fresh}
 use Rattle.protocol.specs.Consistent.{Operation, In}
-use Rattle.protocol.specs.Runs.{Tracked, entry_of, operation, run_from, history}
+use Rattle.protocol.specs.Runs.{Tracked, operation_entry, operation, run_from, history}
 use Rattle.protocol.proofs.Laws.Worlds.{content, sent}
 use Rattle.agreement.proofs.Lists.{in_map, Related, before, after, equal, related}
 use Rattle.agreement.specs.Operations.{shows, Own, Earlier, Story}
@@ -33,12 +33,12 @@ module _ {w : World} {place : ℕ} {l : List Tracked} (s : Story w place l) wher
       go (equal e) = e
 
   -- the entry of a completed operation, and of an unfinished write whose WRITE is sent
-  pub entry_done : (o : Tracked) → 1 ≤ o.end → entry_of w o ≡ Some (shows w o)
-  unfolding entry_of
+  pub entry_done : (o : Tracked) → 1 ≤ o.end → operation_entry w o ≡ Some (shows w o)
+  unfolding operation_entry
   entry_done o h = rw (ne_eqb o.end 0 (λ e. omega arith)) refl
 
-  pub entry_open : (o : Tracked) → o.end ≡ 0 → o.kind ≡ WRITES → 1 ≤ o.write → entry_of w o ≡ Some (shows w o)
-  unfolding entry_of sent content
+  pub entry_open : (o : Tracked) → o.end ≡ 0 → o.kind ≡ WRITES → 1 ≤ o.write → operation_entry w o ≡ Some (shows w o)
+  unfolding operation_entry sent content
   entry_open o h k g = rw (eq-eqb o.end 0 h, eq-eqb o.kind WRITES k, lt-ltb 0 o.write g) refl
 
   -- a write that ended sent its WRITE
@@ -50,8 +50,8 @@ module _ {w : World} {place : ℕ} {l : List Tracked} (s : Story w place l) wher
       go (no z) = record { write = k; sent = omega arith }
 
   -- a write operation that has an entry has sent its WRITE
-  entry_sent : (o : Tracked) → In o l → o.kind ≡ WRITES → {e : Entry} → entry_of w o ≡ Some e → Own o × ((sent w o.write).entry ≡ e)
-  unfolding entry_of
+  entry_sent : (o : Tracked) → In o l → o.kind ≡ WRITES → {e : Entry} → operation_entry w o ≡ Some e → Own o × ((sent w o.write).entry ≡ e)
+  unfolding operation_entry
   entry_sent o i k {e} q = go (ℕ_discrete o.end 0)
     where
       is_some : {x y : Entry} → Some x ≡ Some y → x ≡ y

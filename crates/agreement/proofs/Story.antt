@@ -90,7 +90,8 @@ pub record Newly (w v : World) (place starter kind : ℕ) (new : List Tracked) :
   pub some : 1 ≤ starter → Some new (λ o. Unit {0})
   pub order : Rising (Earlier v) new
 
-module _ {w v : World} {place done starter kind : ℕ} {l new : List Tracked} (n : Inv w) (m : Moved w v done starter kind) (s : Story w place l) (f : Newly w v place starter kind new) (pos : 1 ≤ place) where
+module _ {w v : World} {place done starter kind : ℕ} {l new : List Tracked} (n : Inv w) (m : Moved w v done starter kind) (s : Story w place l)
+    (f : Newly w v place starter kind new) (pos : 1 ≤ place) where
   abbrev c : Change w v
   c = m.change
 

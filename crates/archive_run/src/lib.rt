@@ -17,9 +17,10 @@ use std::io::{Read, Write};
 use streams::{read_full, write_all};
 use turns::{first, turn};
 
-// What the last line tells: the steps accepted, and the refusal of the stop, if it was one.
+// What the last line tells: the steps accepted, and the refusal of the stop, if it was one. Not a journal's `Replayed`, whose steps
+// are in memory and counted by usize.
 #[derive(Clone, Copy)]
-struct Ended {
+struct Done {
     steps: u64,
     stop: Result<(), Refusal>,
 }
@@ -49,7 +50,7 @@ fn next<R: Read, W: Write>(
 const TURNS: u64 = u64::MAX;
 
 // Turns until one stops.
-fn steps<R: Read, W: Write>(input: &mut R, output: &mut W, image: &mut Image) -> Ended
+fn steps<R: Read, W: Write>(input: &mut R, output: &mut W, image: &mut Image) -> Done
     requires { Legible image.old }
     ensures { Led image.old result.steps image.new × Stops image.new (code result.stop) }
 {
@@ -59,9 +60,9 @@ fn steps<R: Read, W: Write>(input: &mut R, output: &mut W, image: &mut Image) ->
             Ok(false) => Ok(()),
             Err(refusal) => Err(refusal),
         };
-        return Ended { steps, stop };
+        return Done { steps, stop };
     }
-    Ended {
+    Done {
         steps: TURNS,
         stop: Ok(()),
     }
@@ -76,7 +77,7 @@ pub fn run(rt: &HostRuntime) {
     let got = read_full(&mut input, &mut bytes);
     let ended = match first(&mut image, &bytes[..got]) {
         Ok(()) => steps(&mut input, &mut output, &mut image),
-        stop => Ended { steps: 0, stop },
+        stop => Done { steps: 0, stop },
     };
     let done = done_line(ended.steps, code(ended.stop));
     write_all(&mut output, done.as_str().as_bytes());

@@ -1,7 +1,7 @@
 // What the program does with each record of its input, on lent bytes.
 // That the image is readable is asked, not held by a struct: tried, each contract then also had to say that the image that comes
 // back is the one lent.
-ghost use Rattle.std.specs.Prelude.{◌≡◌, length};
+ghost use Rattle.std.specs.Prelude.{◌≡◌};
 ghost use Rattle.protocol.specs.Refusals.{code, outcome_by};
 ghost use Rattle.image.specs.Steps.{step_on, left_by};
 ghost use Rattle.mail.specs.Images.{Legible};
@@ -13,7 +13,7 @@ use codec::records::read_step;
 use image::fresh::fresh;
 use lines::{Line, operation_line};
 use protocol::limits::CLIENTS;
-use protocol::{MessageNumber, Refusal, Step, ViewNumber};
+use protocol::{Refusal, Step};
 use world::step::advance;
 
 // "kind 0, f, member bits in value, other fields zero", but r in who
@@ -24,7 +24,8 @@ fn first_fits(s: Step) -> bool
     s.kind == 0 && s.view.0 == 0 && s.message.0 == 0 && s.source.0 == 0
 }
 
-// The first record makes the world: "A record cut short stops it with 1, a first record of another form with 3, a refused world with 8."
+// The first record makes the world: "A record cut short stops it with 1, a first record of another form with 3, a refused world
+// with 8."
 #[tactic(auto, unfolding(crate::specs::Turns::first_on))]
 pub fn first(image: &mut [u8], bytes: &[u8]) -> Result<(), Refusal>
     ensures { (code result ≡ (first_on image.old bytes.now).refusal) × (image.new ≡ (first_on image.old bytes.now).image) }

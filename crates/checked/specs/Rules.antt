@@ -40,13 +40,13 @@ is_reading (Reading r) = true
 is_reading (Writing r) = false
 
 -- a number is needed where the close sends
-abbrev pub next_fits : Client → Bool → ℕ → Bool
-next_fits c one n = (not (is_reading c.phase) || once c one) || number_fits n
+abbrev pub close_number_fits : Client → Bool → ℕ → Bool
+close_number_fits c one n = (not (is_reading c.phase) || once c one) || number_fits n
 
 -- a client's phase closes; one: all answers of the chosen view carry the entry e, and the view permits one exchange
 unfoldable pub close_rule : Client → ℕ → Entry → Bool → ℕ → Result Close
 close_rule c who e one n =
-    guard (client_in_range c && (within 1 clients who && (entry_fits e && next_fits c one n))) 3 (close c who e one n)
+    guard (client_in_range c && (within 1 clients who && (entry_fits e && close_number_fits c one n))) 3 (close c who e one n)
 
 -- the administrator calls a new view
 unfoldable pub call_rule : Administrator → View → ℕ → Result Administrator

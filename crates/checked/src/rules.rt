@@ -1,11 +1,12 @@
 // What a host calls: each rule of one machine, 3 for a record out of range, then as its step.
+// Each is its own function: the records and their ranges are of another machine, and only the refusal 3 is common.
 ghost use Rattle.std.specs.Prelude.{◌≡◌, ◌&&◌};
 ghost use Rattle.protocol.specs.Tools.{guard, number_of};
 ghost use Rattle.protocol.specs.Refusals.{code, outcome, outcome_by};
 ghost use Rattle.protocol.specs.Clients.{begin, closing, bare_fits};
 ghost use Rattle.protocol.specs.Kinds.{operation_code};
 ghost use Rattle.checked.specs.Ranges.{client_in_range, number_fits};
-ghost use Rattle.checked.specs.Rules.{serve_rule, false_answer_rule, write_rule, read_rule, give_up_rule, take_rule, next_fits, close_rule, call_rule, restart_rule, advance_rule};
+ghost use Rattle.checked.specs.Rules.{serve_rule, false_answer_rule, write_rule, read_rule, give_up_rule, take_rule, close_number_fits, close_rule, call_rule, restart_rule, advance_rule};
 
 use super::ranges;
 use protocol::limits::{CLIENTS, MESSAGES, VIEWS};
@@ -83,8 +84,8 @@ pub fn give_up_rule(c: Client) -> Result<Client, Refusal>
     client_rules::give_up(c)
 }
 
-// Whether a message is an answer that may be taken, r being the request that waits, or 0: 3; 5, not an answer; 7, taken before, or
-// of another request.
+// Whether a message is an answer that may be taken, r being the request that waits, or 0: 3; 5, not an answer; 7, taken before,
+// or of another request.
 #[tactic(auto, unfolding(crate::specs::Rules::take_rule, protocol::specs::Tools::guard))]
 pub fn take_rule(m: Message, r: MessageNumber) -> Result<(), Refusal>
     ensures { code result ≡ number_of (take_rule m r.0) }
@@ -102,14 +103,14 @@ pub fn take_rule(m: Message, r: MessageNumber) -> Result<(), Refusal>
 }
 
 // The number of the message that closing a phase sends, where it sends one.
-fn next_fits(c: Client, one: bool, n: MessageNumber) -> bool
-    ensures { result ≡ next_fits c one n.0 }
+fn close_number_fits(c: Client, one: bool, n: MessageNumber) -> bool
+    ensures { result ≡ close_number_fits c one n.0 }
 {
     !matches!(c.phase, Phase::Reading(_)) || client_rules::once(c, one) || ranges::number_fits(n)
 }
 
-// A phase of client number who closes with the entry e; one says whether all answers of the chosen view carry it and the view permits
-// one exchange, and the WRITE that closing READ sends has the number n: 3, 7, 11.
+// A phase of client number who closes with the entry e; one says whether all answers of the chosen view carry it and the view
+// permits one exchange, and the WRITE that closing READ sends has the number n: 3, 7, 11.
 #[tactic(auto, unfolding(crate::specs::Rules::close_rule, protocol::specs::Tools::guard))]
 pub fn close_rule(
     c: Client,
@@ -123,7 +124,7 @@ pub fn close_rule(
     if !ranges::client_in_range(c)
         || !(1..=CLIENTS).contains(&who)
         || !entries::entry_fits(e)
-        || !next_fits(c, one, n)
+        || !close_number_fits(c, one, n)
     {
         return Err(Refusal::Unfit);
     }

@@ -22,6 +22,7 @@ pub fn close_size(p: Phase, v: View) -> u32
 }
 
 // An operation begins, kind 1 a write of the value or 2 a read, with its READ, number n. 4, client not idle.
+// The kind is a number: the enum would ask more of callers.
 #[tactic(auto, unfolding(protocol::specs::Clients::begin, protocol::specs::Tools::guard))]
 pub fn begin(c: Client, kind: u8, value: u32, n: MessageNumber) -> Result<Client, Refusal>
     ensures { outcome result ≡ begin c kind value n.0 }

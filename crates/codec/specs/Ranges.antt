@@ -101,13 +101,15 @@ yields : {s : RangeInclusive ℕ} (n : ℕ) → UpTo s n → YieldsList nat_rang
 unfolding shown left
 yields {s} n u =
     let k : left s ≡ n = ap (range_inclusive_len (λ x y. y - x) (range_inclusive_start s) (range_inclusive_end s)) u.exhausted ∙ (let a = u.start in let b = u.end in omega arith) in
-    record { runs = subst (λ (l : List ℕ). AlwaysYields nat_range_inclusive_steps (λ x. x) s l) (ap (range_with_len (range_inclusive_start s)) k ∙ ap (λ (j : ℕ). range_with_len j n) u.start) (gives s) }
+    let e = ap (range_with_len (range_inclusive_start s)) k ∙ ap (λ (j : ℕ). range_with_len j n) u.start in
+    record { runs = subst (λ (l : List ℕ). AlwaysYields nat_range_inclusive_steps (λ x. x) s l) e (gives s) }
 
 -- ---- the chains
 
 pub all_up_to : {F : Type 0} {g : Mut F (ℕ × Unit {0}) Bool} {s : RangeInclusive ℕ} (p : ℕ → Bool) (n : ℕ) (u : RangeInclusive ℕ) (f : F) (r : Bool)
     → UpTo s n
-    → ((xs : List ℕ) × (o : Option ℕ) × (j : F) × YieldsThen nat_range_inclusive_steps s xs o u × FoldsTo (λ p x q. Called g p (x, tt) true q) f xs j × MatchOption o (r ≡ true) (λ x. (r ≡ false) × ((h : F) × Called g j (x, tt) false h)))
+    → ((xs : List ℕ) × (o : Option ℕ) × (j : F) × YieldsThen nat_range_inclusive_steps s xs o u × FoldsTo (λ p x q. Called g p (x, tt) true q) f xs j
+    × MatchOption o (r ≡ true) (λ x. (r ≡ false) × ((h : F) × Called g j (x, tt) false h)))
     → ((x : ℕ) (b : Bool) (q : F) → Called g f (x, tt) b q → (q ≡ f) × (b ≡ p x))
     → r ≡ all_to p n
 all_up_to p n u f r s ran h = all_from_yields_List p u f r ran (yields n s) h ∙ all_range p n
@@ -123,7 +125,8 @@ count_up_to {g = g} p n s f r u e c ran h =
 -- ---- the same over `1..n + 1`, which is compiled to a plainer loop: `1..=n` asks in each turn whether its last number has come
 
 pub all_below : {F : Type 0} {g : Mut F (ℕ × Unit {0}) Bool} (p : ℕ → Bool) (n : ℕ) (u : Range ℕ) (f : F) (r : Bool)
-    → ((xs : List ℕ) × (o : Option ℕ) × (j : F) × YieldsThen nat_range_steps (record { start = 1; end = n + 1 }) xs o u × FoldsTo (λ p x q. Called g p (x, tt) true q) f xs j × MatchOption o (r ≡ true) (λ x. (r ≡ false) × ((h : F) × Called g j (x, tt) false h)))
+    → ((xs : List ℕ) × (o : Option ℕ) × (j : F) × YieldsThen nat_range_steps (record { start = 1; end = n + 1 }) xs o u × FoldsTo (λ p x q. Called g p (x, tt) true q) f xs j
+    × MatchOption o (r ≡ true) (λ x. (r ≡ false) × ((h : F) × Called g j (x, tt) false h)))
     → ((x : ℕ) (b : Bool) (q : F) → Called g f (x, tt) b q → (q ≡ f) × (b ≡ p x))
     → r ≡ all_to p n
 all_below p n u f r ran h = all_from_yields_List p u f r ran (YieldsList-from_range 1 (n + 1) n refl (omega arith)) h ∙ all_range p n

@@ -1,4 +1,5 @@
 // Numbers as bytes, the lowest first, and zero bytes: read from a place, written over one.
+// Writers take the buffer with a place: to lend a part out would need clauses on how it comes back.
 ghost use Rattle.std.specs.Prelude.{◌≡◌, [], ◌∷◌, ◌+◌, ◌≤◌, ◌<◌, length, replicate, eqb};
 ghost use Rattle.std.specs.List.{list_all};
 ghost use Rattle.protocol.specs.Runs.{u16_width, u32_width, u16_at, u32_at};

@@ -11,8 +11,8 @@ ghost use Rattle.codec.specs.Places.{used_at, put_used, administrator_at, put_ad
 
 use super::bytes::{array_at, get16, put8, put16};
 use super::layout::{
-    ADMINISTRATOR, ADMINISTRATOR_AT, CLIENT, CLIENTS_AT, HOLDER, HOLDERS_AT, Image, MESSAGE,
-    MESSAGES_AT, SERVER, SERVERS_AT, THRESHOLD_AT, USED_AT, VIEW, VIEWS_AT,
+    ADMINISTRATOR_AT, CLIENT, CLIENTS_AT, HOLDER, HOLDERS_AT, Image, MESSAGE, MESSAGES_AT, SERVER,
+    SERVERS_AT, THRESHOLD_AT, USED_AT, VIEW, VIEWS_AT,
 };
 use super::records::{
     read_administrator, read_client, read_message, read_server, read_view, write_administrator,

@@ -1,10 +1,8 @@
 // Each record as bytes: read, written from a place on, and the test of its spare bytes, flags and tags. Writers take the buffer
 // with a place: to lend a part out would need clauses on how it comes back.
 ghost use Rattle.std.specs.Prelude.{◌≡◌, ◌+◌, ◌≤◌, length};
-ghost use Rattle.codec.specs.Layout.{entry_width, view_width, server_width, client_width, message_width, administrator_width, header_width};
-ghost use Rattle.protocol.specs.Runs.{step_of, step_width};
-ghost use Rattle.protocol.specs.Tools.{bit};
-ghost use Rattle.protocol.specs.Clients.{request_of, end_of, is_ending};
+ghost use Rattle.codec.specs.Layout.{entry_width, view_width, server_width, client_width, message_width, administrator_width};
+ghost use Rattle.protocol.specs.Runs.{step_of};
 ghost use Rattle.codec.specs.Lists.{put};
 ghost use Rattle.codec.specs.Records.{entry_of, entry_bytes, entry_plain, view_of, view_bytes, view_plain, server_of, server_bytes, server_plain};
 ghost use Rattle.codec.specs.Records.{client_of, client_bytes, client_plain, phase_of, phase_tag, untagged, message_of, message_bytes, message_plain};

@@ -25,7 +25,7 @@ use Rattle.image.specs.Premise.{premise_on}
 use Rattle.image.specs.Steps.{step_on, steps_of, played, unplayed, replay_on, resume_on}
 use Rattle.checked.specs.Rules.{serve_rule, false_answer_rule, write_rule, read_rule, give_up_rule, take_rule, close_rule, call_rule, restart_rule, advance_rule}
 use Rattle.journal.specs.Rests.{steps_count}
-use Rattle.single.specs.Rules.{stays, server_rule, opens, client_rule, operation_rule, dropping_rule, calling_rule, restarting_rule, administrator_rule}
+use Rattle.single.specs.Rules.{stays, server_asked, opens, client_asked, operation_rule, dropping_rule, calling_rule, restarting_rule, administrator_asked}
 use Rattle.single.specs.Calls.{server_call, client_call, administrator_call}
 use Rattle.protocol.specs.Steps.{give_up_step, restart_step}
 use Rattle.protocol.specs.Clients.{give_up}
@@ -154,8 +154,8 @@ opens_refuses : (ns : List ℕ) (x : Result Client) → Refuses ns x → Refuses
 opens_refuses ns (refused n) h = refuses_by ns n (h.numbers n refl)
 opens_refuses ns (done c) h = refuses_done _ _
 
-server_rule_refuses : (a : Server) (m : Message) (rule flag t : ℕ) → Refuses (1 ∷ 3 ∷ 5 ∷ 6 ∷ 7 ∷ 9 ∷ []) (server_rule a m rule flag t)
-unfolding server_rule
+server_rule_refuses : (a : Server) (m : Message) (rule flag t : ℕ) → Refuses (1 ∷ 3 ∷ 5 ∷ 6 ∷ 7 ∷ 9 ∷ []) (server_asked a m rule flag t)
+unfolding server_asked
 server_rule_refuses a m rule flag t =
     refuses_guard _ _ _ _ refl
     (refuses_if _ (eqb rule 3) _ _ (refuses_guard _ _ _ _ refl (refuses_more (3 ∷ 5 ∷ 6 ∷ 7 ∷ []) _ _ refl (serve_numbers _ _ _)))
@@ -177,8 +177,8 @@ operation_rule_refuses c rule who n e one =
     (refuses_if _ (eqb rule 1) _ _ (opens_refuses _ _ (refuses_more (3 ∷ 4 ∷ []) _ _ refl (write_numbers c e.value n)))
     (refuses_guard _ _ _ _ refl (refuses_guard _ _ _ _ refl (opens_refuses _ _ (refuses_more (3 ∷ 4 ∷ []) _ _ refl (read_numbers c n))))))))
 
-client_rule_refuses : (c : Client) (rule who n : ℕ) (e : Entry) (flag : ℕ) → Refuses (1 ∷ 3 ∷ 4 ∷ 7 ∷ 11 ∷ 12 ∷ []) (client_rule c rule who n e flag)
-unfolding client_rule dropping_rule
+client_rule_refuses : (c : Client) (rule who n : ℕ) (e : Entry) (flag : ℕ) → Refuses (1 ∷ 3 ∷ 4 ∷ 7 ∷ 11 ∷ 12 ∷ []) (client_asked c rule who n e flag)
+unfolding client_asked dropping_rule
 client_rule_refuses c rule who n e flag =
     refuses_guard _ _ _ _ refl
     (refuses_if _ (eqb rule give_up_step) _ _
@@ -201,8 +201,8 @@ calling_rule_refuses a rule n v =
     (refuses_guard _ _ _ _ refl
     (refuses_guard _ _ _ _ refl (refuses_guard _ _ _ _ refl (refuses_more (3 ∷ 7 ∷ []) _ _ refl (advance_numbers _)))))))
 
-administrator_rule_refuses : (a : Administrator) (rule n : ℕ) (v : View) → Refuses (1 ∷ 3 ∷ 4 ∷ 7 ∷ 8 ∷ []) (administrator_rule a rule n v)
-unfolding administrator_rule restarting_rule
+administrator_rule_refuses : (a : Administrator) (rule n : ℕ) (v : View) → Refuses (1 ∷ 3 ∷ 4 ∷ 7 ∷ 8 ∷ []) (administrator_asked a rule n v)
+unfolding administrator_asked restarting_rule
 administrator_rule_refuses a rule n v =
     refuses_if _ (eqb rule restart_step) _ _ (refuses_guard _ _ _ _ refl (refuses_more (3 ∷ 7 ∷ 8 ∷ []) _ _ refl (restart_numbers _ _))) (calling_rule_refuses a rule n v)
 

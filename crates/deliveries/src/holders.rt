@@ -1,6 +1,6 @@
 // The bytes that count the faulty key holders of each view, kept along with the servers' records.
 // That the image is readable is asked, not held by a struct: behind `&mut` its field would have to be proved again at each
-// return.
+// return, and for a reader it would be made for one call.
 ghost use Rattle.std.specs.Prelude.{◌≡◌, ◌≤◌};
 ghost use Rattle.protocol.specs.Sizes.{servers, views};
 ghost use Rattle.codec.specs.Places.{put_server};

@@ -1,6 +1,6 @@
 // A message reaches a server, a server turns faulty, a faulty server answers.
 // That the image is readable is asked, not held by a struct: behind `&mut` its field would have to be proved again at each
-// return.
+// return, and for a reader it would be made for one call.
 // A number in range stays a number: a type for it would be made and taken apart at each call, with the same goal.
 ghost use Rattle.std.specs.Prelude.{false, ◌≡◌, ◌≤◌, eqb, Some};
 ghost use Rattle.protocol.specs.Tools.{if};

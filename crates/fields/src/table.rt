@@ -78,6 +78,7 @@ pub struct Row(pub u8);
 
 impl Row {
     // The row of a kind, without a field where there is no such kind.
+    // The number may be any, as in the bytes of a step.
     #[tactic(auto, using(std::proofs::lemmas::Option::gets), unfolding(protocol::specs::Steps::row_of))]
     pub fn of(kind: u8) -> Row
         ensures { result.0 ≡ row_of kind }

@@ -19,23 +19,23 @@ use Rattle.key_holders.specs.Holders.{holders_count, holders_beyond}
 use Rattle.readable.specs.Readable.{readable, read}
 
 -- no more than f(t) faulty servers hold key t, by the byte that counts them
-unfoldable pub within : List ℕ → ℕ → Bool
-within i t = leb (holder_at i t) (view_at i t).f
+unfoldable pub few_hold : List ℕ → ℕ → Bool
+few_hold i t = leb (holder_at i t) (view_at i t).f
 
 -- the premise of a readable image by these bytes and the views' f: no view beyond the newest has a faulty key holder
-pub premise_bytes : (i : List ℕ) → readable i ≡ true → premise (decode i) ≡ all_to (within i) views
-unfolding premise within
+pub premise_bytes : (i : List ℕ) → readable i ≡ true → premise (decode i) ≡ all_to (few_hold i) views
+unfolding premise few_hold
 premise_bytes i e =
     let r = read i e in
     let f = formed (decode i) r.world in
     let byte = (plain_image i r.image).holder in
-    let same : (t : ℕ) → 1 ≤ t → t ≤ views → within i t ≡ leb (count_to (bad (decode i) t) servers) (view (decode i) t).f
+    let same : (t : ℕ) → 1 ≤ t → t ≤ views → few_hold i t ≡ leb (count_to (bad (decode i) t) servers) (view (decode i) t).f
     = λ t a b. rw (byte t a b, holders_count (decode i) t, view_decode i t a b) in
-    let none : (t : ℕ) → 1 ≤ t → t ≤ views → newest (decode i) < t → within i t ≡ true
+    let none : (t : ℕ) → 1 ≤ t → t ≤ views → newest (decode i) < t → few_hold i t ≡ true
     = λ t a b h. rw (byte t a b, holders_beyond (record { one = f.served }) t h) (le-leb 0 (view_at i t).f (omega arith)) in
-    as_one (premise (decode i)) (all_to (within i) views)
+    as_one (premise (decode i)) (all_to (few_hold i) views)
     (λ p.
-    all_to_lem (within i) views
+    all_to_lem (few_hold i) views
     (λ t a b.
     elim (dec_lt (newest (decode i)) t) [
       | yes h ↦ none t a b h
@@ -43,7 +43,7 @@ premise_bytes i e =
     ]))
     (λ p.
     all_to_lem (λ t. leb (count_to (bad (decode i) t) servers) (view (decode i) t).f) (newest (decode i))
-    (λ t a b. let c : t ≤ views = omega (arith, f.high) in sym (same t a c) ∙ all_to_at (within i) views t p a c))
+    (λ t a b. let c : t ≤ views = omega (arith, f.high) in sym (same t a c) ∙ all_to_at (few_hold i) views t p a c))
 
 -- the views whose bytes are read as one u32
 abbrev pub group : ℕ
@@ -59,10 +59,10 @@ zero_byte i at e (suc (suc (suc zero))) h =
     ap (λ (n : ℕ). get_or i n 0) q ∙ (let z : get_or i (at + 2 + 1) 0 ≡ 0 = omega arith in z)
 zero_byte i at e (suc (suc (suc (suc j)))) h = absurd (omega arith)
 
-pub none_held : (i : List ℕ) (k : ℕ) → u32_at i (holders_at + holder_width * k) ≡ 0 → all_to (λ j. within i (k + j)) group ≡ true
-unfolding within holder_at
+pub none_held : (i : List ℕ) (k : ℕ) → u32_at i (holders_at + holder_width * k) ≡ 0 → all_to (λ j. few_hold i (k + j)) group ≡ true
+unfolding few_hold holder_at
 none_held i k e =
-    all_to_lem (λ j. within i (k + j)) group
+    all_to_lem (λ j. few_hold i (k + j)) group
     (λ j a b.
     let at : holder_place (k + j) ≡ holders_at + holder_width * k + (j - 1) = omega arith in
     let zero : holder_at i (k + j) ≡ 0 = ap (λ (n : ℕ). get_or i n 0) at ∙ zero_byte i (holders_at + holder_width * k) e (j - 1) (omega arith) in

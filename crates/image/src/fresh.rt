@@ -65,8 +65,21 @@ fn store_fresh(image: &mut Image, v: View)
     store_servers(image, v.members);
 }
 
-// "Fresh world (member bits, f)", and r: "1, buffer not" an image's length "; 8, size rule broken."
+// The fresh world of a view, on the bytes of an image: "8, size rule broken."
 #[tactic(auto, unfolding(crate::specs::Fresh::fresh_on, protocol::specs::Tools::guard, protocol::specs::Worlds::fresh))]
+pub fn fresh_view(image: &mut Image, v: View) -> Result<(), Refusal>
+    ensures { (code result ≡ (fresh_on image.old v.members.0 v.f v.r).refusal)
+        × (image.new ≡ (fresh_on image.old v.members.0 v.f v.r).image) }
+{
+    if !sized(v) {
+        return Err(Refusal::WrongSize);
+    }
+    store_fresh(image, v);
+    Ok(())
+}
+
+// "Fresh world (member bits, f)", and r: "1, buffer not" an image's length "; 8, size rule broken."
+#[tactic(auto, unfolding(crate::specs::Fresh::fresh_on, protocol::specs::Tools::guard))]
 pub fn fresh(image: &mut [u8], members: u32, f: u8, r: u8) -> Result<(), Refusal>
     ensures { (code result ≡ (fresh_on image.old members f r).refusal) × (image.new ≡ (fresh_on image.old members f r).image) }
 {
@@ -78,9 +91,5 @@ pub fn fresh(image: &mut [u8], members: u32, f: u8, r: u8) -> Result<(), Refusal
         f,
         r,
     };
-    if !sized(v) {
-        return Err(Refusal::WrongSize);
-    }
-    store_fresh(image, v);
-    Ok(())
+    fresh_view(image, v)
 }

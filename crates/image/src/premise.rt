@@ -7,7 +7,7 @@ ghost use Rattle.protocol.specs.Sizes.{views};
 ghost use Rattle.protocol.specs.Worlds.{premise as premise_of};
 ghost use Rattle.codec.specs.Images.{decode};
 ghost use Rattle.readable.specs.Readable.{readable as is_readable};
-ghost use Rattle.image.specs.Premise.{within, group, premise_on};
+ghost use Rattle.image.specs.Premise.{few_hold, group, premise_on};
 
 use codec::bytes::get32;
 use codec::layout::{HOLDER, HOLDERS_AT, Image};
@@ -17,10 +17,10 @@ use protocol::{Refusal, ViewNumber};
 use readable::readable::scanned;
 
 // No more faulty servers hold key t than its threshold, by the byte that counts them.
-#[tactic(auto, unfolding(crate::specs::Premise::within))]
+#[tactic(auto, unfolding(crate::specs::Premise::few_hold))]
 fn view_holds(image: &Image, t: ViewNumber) -> bool
     requires { (1 ≤ t.0) × (t.0 ≤ views) }
-    ensures { result ≡ within image.now t.0 }
+    ensures { result ≡ few_hold image.now t.0 }
 {
     load_holders(image, t) <= load_threshold(image, t)
 }
@@ -30,7 +30,7 @@ const GROUP: u8 = 4;
 
 fn each_holds(image: &Image, k: u8) -> bool
     requires { k + group ≤ views }
-    ensures { result ≡ all_to (λ j. within image.now (k + j)) group }
+    ensures { result ≡ all_to (λ j. few_hold image.now (k + j)) group }
 {
     (1..GROUP + 1).all(|j| view_holds(image, ViewNumber(k + j)))
 }
@@ -38,13 +38,13 @@ fn each_holds(image: &Image, k: u8) -> bool
 // The same of the views k + 1 to k + 4. Most have no faulty key holder: then their bytes are zero, and nothing else is read.
 fn group_holds(image: &Image, k: u8) -> bool
     requires { k + group ≤ views }
-    ensures { result ≡ all_to (λ j. within image.now (k + j)) group }
+    ensures { result ≡ all_to (λ j. few_hold image.now (k + j)) group }
 {
     get32(image, HOLDERS_AT + HOLDER * (k as usize)) == 0 || each_holds(image, k)
 }
 
 fn views_hold(image: &Image) -> bool
-    ensures { result ≡ all_to (within image.now) views }
+    ensures { result ≡ all_to (few_hold image.now) views }
 {
     (1..VIEWS / GROUP + 1).all(|g| group_holds(image, GROUP * (g - 1)))
 }

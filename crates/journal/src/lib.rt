@@ -4,7 +4,7 @@
 pub mod replay;
 pub mod watch;
 
-ghost use Rattle.std.specs.Prelude.{◌≡◌, Some};
+ghost use Rattle.std.specs.Prelude.{◌≡◌, Some, None};
 ghost use Rattle.journal.specs.Replays.{stopped_at};
 
 use protocol::Refusal;
@@ -33,4 +33,16 @@ impl Replayed {
 pub struct Watched {
     pub replayed: Replayed,
     pub first: Option<usize>,
+}
+
+impl Watched {
+    // A replay that did not begin names no step.
+    fn refused(refusal: Refusal) -> Watched
+        ensures { result ≡ record { replayed = stopped_at 0 (Some refusal); first = None } }
+    {
+        Watched {
+            replayed: Replayed::refused(refusal),
+            first: None,
+        }
+    }
 }

@@ -1,7 +1,6 @@
 // Replay: the image is tested once, then each step touches only what it changes.
 // That the image is readable is asked, not held by a struct: tried, each contract then also had to say that the image that comes
 // back is the one lent.
-ghost use Rattle.std.specs.Prelude.{◌≡◌};
 ghost use Rattle.protocol.specs.Runs.{replay as replay_of};
 ghost use Rattle.codec.specs.Images.{decode};
 ghost use Rattle.image.specs.Steps.{played, replay_on, resume_on};

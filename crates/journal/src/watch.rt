@@ -1,13 +1,11 @@
-// The second form of replay: the image is tested once, and after each step the premise is read off the bytes that count the faulty
-// key holders and the views' f.
-// That the image is readable is asked, not held by a struct: tried, each contract then also had to say that the image that comes
-// back is the one lent.
-ghost use Rattle.std.specs.Prelude.{◌≡◌, Some, None};
+// The second form of replay: the image is tested once, and after each step the premise is read off the bytes that count the
+// faulty key holders and the views' f. That the image is readable is asked, not held by a struct: tried, each contract then also
+// had to say that the image that comes back is the one lent.
+ghost use Rattle.std.specs.Prelude.{◌≡◌};
 ghost use Rattle.protocol.specs.Runs.{replay as replay_of};
 ghost use Rattle.codec.specs.Images.{decode};
 ghost use Rattle.image.specs.Steps.{played};
 ghost use Rattle.mail.specs.Images.{Legible};
-ghost use Rattle.journal.specs.Replays.{stopped_at};
 ghost use Rattle.journal.specs.Watch.{broken_from, watch_on};
 ghost use Rattle.journal.specs.Watches.{Watches, noticed, watch_steps};
 
@@ -30,7 +28,7 @@ fn notice(image: &Image, named: Option<usize>, n: usize) -> Option<usize>
     }
 }
 
-// "beside a stop too": on a readable image.
+// "beside a stop too": on a readable image. A loop of its own, since a replay without the premise takes less time.
 fn observe(image: &mut Image, journal: &[[u8; STEP]]) -> Watched
     requires { Legible image.old }
     ensures { Watches result image.new
@@ -54,38 +52,29 @@ fn observe(image: &mut Image, journal: &[[u8; STEP]]) -> Watched
     Watched { replayed, first }
 }
 
-// A replay that did not begin names no step.
-fn refused(refusal: Refusal) -> Watched
-    ensures { result ≡ record { replayed = stopped_at 0 (Some refusal); first = None } }
-{
-    Watched {
-        replayed: Replayed::refused(refusal),
-        first: None,
-    }
-}
-
-// A journal of whole steps on the bytes of an image.
+// A journal of whole steps on the bytes of an image. The tests are those of a replay: a function that hands both on once they
+// have passed would need a clause for each way out.
 fn tested(image: &mut Image, journal: &[[u8; STEP]]) -> Watched
     ensures { Watches result image.new (watch_steps image.old journal.now) }
 {
     if scanned(image) {
         observe(image, journal)
     } else {
-        refused(Refusal::Unreadable)
+        Watched::refused(Refusal::Unreadable)
     }
 }
 
-// "A second form of replay also names, beside a stop too, the first accepted step after which the premise does not hold, or 0.": for
-// every image and every journal.
+// "A second form of replay also names, beside a stop too, the first accepted step after which the premise does not hold, or 0.":
+// for every image and every journal.
 pub fn watch(image: &mut [u8], journal: &[u8]) -> Watched
     ensures { Watches result image.new (watch_on image.old journal.now) }
 {
     let Some(image) = image.as_mut_array() else {
-        return refused(Refusal::WrongLength);
+        return Watched::refused(Refusal::WrongLength);
     };
     let (steps, rest) = journal.as_chunks();
     if !rest.is_empty() {
-        return refused(Refusal::WrongLength);
+        return Watched::refused(Refusal::WrongLength);
     }
     tested(image, steps)
 }

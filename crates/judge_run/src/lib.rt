@@ -3,7 +3,6 @@
 
 pub mod text;
 
-use codec::bytes::get16;
 use judging::judge::{PLACE, judge};
 use judging::log::{LOG_LINE, LOG_LINES};
 use lines::done_line;
@@ -18,8 +17,13 @@ const ORDER_ROOM: usize = PLACE * (LOG_LINES + 1);
 
 // A line for each operation of an order.
 fn show<W: Write>(output: &mut W, log: &[u8], order: &[u8]) {
-    for place in order.chunks_exact(PLACE) {
-        write_all(output, place_line(log, get16(place, 0)).as_str().as_bytes());
+    for place in order.as_chunks().0 {
+        write_all(
+            output,
+            place_line(log, u16::from_le_bytes(*place))
+                .as_str()
+                .as_bytes(),
+        );
     }
 }
 

@@ -13,7 +13,7 @@ use Rattle.codec.specs.Bytes.{le16}
 use Rattle.codec.specs.Lists.{put, flat, length_flat, put_right}
 use Rattle.judging.specs.declared.Logged.{Logged}
 use Rattle.judging.specs.Decision.{follows, last_write, on_time, last_begin, along, answers, timely}
-use Rattle.judging.proofs.Sorting.{drop_all}
+use Rattle.std.proofs.lemmas.List.{drop_all}
 use Rattle.judging.specs.Verdict.{place_width, order_bytes}
 
 -- ---- the loop of a pass: the first q lines of l have passed, and s is what the next is tested with

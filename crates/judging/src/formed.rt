@@ -1,5 +1,6 @@
 // "14, malformed": a function for each clause.
-// A number in range stays a number: a type for it would be made and taken apart at each call, with the same goal.
+// A line is named by its number in the lent bytes, as in the definitions and in an order: over a slice of arrays each clause
+// would have to glue them together again.
 ghost use Rattle.std.specs.Prelude.{◌≡◌, ◌&&◌, ◌≤◌};
 ghost use Rattle.judging.specs.Logs.{lines_of, line_bytes, most_lines};
 ghost use Rattle.judging.specs.Logs.{in_values, ends_later, counted, numbers_apart, stamps_apart, line_fits, apart_before, lines_fit, well_logged};
@@ -79,7 +80,7 @@ fn apart_before(log: &[u8], i: u16) -> bool
     })
 }
 
-// Each line's clauses.
+// Each line's clauses. The number of lines is handed in, since that it is not over 256 was tested on it.
 #[tactic(auto, unfolding(crate::specs::Logs::lines_fit))]
 fn lines_fit(log: &[u8], n: u16) -> bool
     requires { (n ≡ lines_of log.now) × (n ≤ most_lines) }

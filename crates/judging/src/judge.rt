@@ -54,8 +54,8 @@ fn answer(log: &[u8], order: &mut [u8]) -> Result<u16, Refusal>
     decide(log, order)
 }
 
-// "Tell whether an order exists as the mission describes it, with stamps never falling along it": the number of operations in the order,
-// every byte of the buffer, and what they mean.
+// "Tell whether an order exists as the mission describes it, with stamps never falling along it": the number of operations in
+// the order, every byte of the buffer, and what they mean.
 pub fn judge(log: &[u8], order: &mut [u8]) -> Result<u16, Refusal>
     ensures judges { Judges result order.old order.new (judged log.now (length order.old)) }
     ensures promise { Promise log.now order.old order.new (outcome result) }

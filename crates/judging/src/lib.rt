@@ -14,6 +14,7 @@ use protocol::Entry;
 pub struct Logged {
     pub begin: u16,
     pub end: u16,
+    // A number: the line's byte may be any.
     pub kind: u8,
     pub entry: Entry,
 }

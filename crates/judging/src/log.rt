@@ -1,5 +1,6 @@
 // The lines of a log as lent bytes.
-// A number in range stays a number: a type for it would be made and taken apart at each call, with the same goal.
+// A line is named by its number in the lent bytes, as in the definitions and in an order: over a slice of arrays each clause
+// would have to glue them together again.
 ghost use Rattle.std.specs.Prelude.{◌≡◌, ◌≤◌};
 ghost use Rattle.judging.specs.Logs.{lines_of, logged_of, line_bytes, line_at};
 

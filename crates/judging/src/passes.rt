@@ -44,8 +44,8 @@ fn last_begin(latest: u16, x: Logged) -> u16
     latest.max(x.begin)
 }
 
-// Each read of the lines of a list has the entry of the last write before it, or the empty entry, and none of them ended before one in
-// front of it began.
+// Each read of the lines of a list has the entry of the last write before it, or the empty entry, and none of them ended before
+// one in front of it began.
 pub fn in_order(log: &[u8], order: &[u16]) -> bool
     requires { Numbers (lines_of log.now) order.now }
     ensures { result ≡ (answers (line_at log.now) empty order.now && timely (line_at log.now) 0 order.now) }

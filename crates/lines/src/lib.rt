@@ -25,6 +25,7 @@ fn put_number(line: &mut Line, n: u64)
 }
 
 // W for a write, else R.
+// The number may be any, as in a client's record and in a log.
 pub fn letter(kind: u8) -> char
     ensures { result ≡ letter_of kind }
 {
@@ -36,6 +37,7 @@ pub fn letter(kind: u8) -> char
 }
 
 // The number of a client or of a line, then "W or R, count, writer, value".
+// The kind may be any number, as in a client's record and in a log.
 #[tactic(auto, unfolding(crate::specs::Lines::entry_line, crate::specs::Lines::number_then))]
 pub fn entry_line(number: u64, kind: u8, entry: Entry) -> Line
     ensures { result.bytes ≡ entry_line number kind entry }
@@ -63,6 +65,7 @@ pub fn operation_line(number: u8, c: Client) -> Line
 }
 
 // "done, steps accepted, refusal of the stop or 0".
+// The refusal is a number: a `Result` would ask more of callers.
 #[tactic(auto, unfolding(crate::specs::Lines::done_line, crate::specs::Lines::number_then))]
 pub fn done_line(steps: u64, refusal: u8) -> Line
     ensures { result.bytes ≡ done_line steps refusal }

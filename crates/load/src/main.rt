@@ -1,8 +1,8 @@
-// The program: from a seed and a number of steps, 8 bytes of standard input (u32 each, little-endian), the journal of that load on
-// standard output.
+// The program: from a seed and a number of steps, 8 bytes of standard input (u32 each, little-endian), the journal of that load
+// on standard output.
 #![tactic(auto)]
 
-ghost use Rattle.std.specs.Prelude.{ℕ, ◌≡◌, ◌≤◌, length, take, true};
+ghost use Rattle.std.specs.Prelude.{ℕ, ◌≡◌, take, true};
 ghost use Rattle.std.specs.Io.KnownBytes.{Appends};
 ghost use Rattle.loads.specs.Load.{load_from};
 
@@ -16,8 +16,8 @@ const PIECE: u32 = 341;
 
 const BUFFER: usize = 4096;
 
-// Writes piece after piece, each from the state where the last one ended. Returns whether all are written; if not, the first bytes of
-// the journal may be.
+// Writes piece after piece, each from the state where the last one ended. Returns whether all are written; if not, the first
+// bytes of the journal may be.
 fn write_load<W: Write>(output: &mut W, draws: &mut Draws, steps: u32) -> bool
     ensures all { result ≡ true → Appends (W.contents output.old) (W.contents output.new) (load_from draws.old.state steps).journal }
     ensures part { (n : ℕ) × Appends (W.contents output.old) (W.contents output.new) (take n (load_from draws.old.state steps).journal) }

@@ -31,8 +31,8 @@ impl Draws {
         self.state
     }
 
-    // A used field takes one draw: "its remainder by the size of the field's range plus the lowest value". An unused one takes none: the
-    // test comes first, so that a kind without the field jumps over the draw.
+    // A used field takes one draw: "its remainder by the size of the field's range plus the lowest value". An unused one takes
+    // none: the test comes first, so that a kind without the field jumps over the draw.
     #[tactic(auto, unfolding(crate::specs::Draws::drawn))]
     pub fn field(&mut self, used: bool, range: Range) -> u32
         requires { range.low ≤ range.high }

@@ -1,5 +1,5 @@
 // The journal of a load, written into a lent buffer.
-ghost use Rattle.std.specs.Prelude.{◌≡◌, ◌*◌, ◌≤◌, ◌+◌, length};
+ghost use Rattle.std.specs.Prelude.{◌≡◌, ◌*◌, ◌+◌, length};
 ghost use Rattle.protocol.specs.Runs.{step_width};
 ghost use Rattle.protocol.specs.Refusals.{code};
 ghost use Rattle.loads.specs.Load.{spelled, load_from, load_on};
@@ -23,7 +23,7 @@ fn step_bytes(st: Step) -> [u8; STEP]
     ]
 }
 
-// Writes the steps that the next draws make. By an index: std says nothing of what a slice holds once its chunks were lent.
+// Writes the steps that the next draws make, as many as the definitions draw. By an index: std says nothing of what a slice holds once its chunks were lent.
 #[tactic(auto, using(std::proofs::lemmas::Grind::common_steps, std::proofs::lemmas::Slice::overwrites), unfolding(crate::specs::Load::load_from, crate::specs::Load::longer))]
 pub fn fill(journal: &mut [u8], draws: &mut Draws, steps: u32)
     requires { length journal.old ≡ step_width * steps }

@@ -19,6 +19,7 @@ use protocol::{
 pub type Stepped = Result<Option<u8>, Refusal>;
 
 // A message that is no answer.
+// The kind is a number: the enum would ask more of callers.
 pub fn request(kind: u8, sender: u8, view: ViewNumber, entry: Entry) -> Message
     ensures { result ≡ request_of kind sender view.0 entry }
 {

@@ -13,7 +13,7 @@ use super::phase_record::{
 use super::rules::{count_answer, record_closes};
 use checked::{ranges, rules};
 use codec::bytes::{array_at, clear, put_zeros};
-use codec::layout::{ENTRY, MESSAGE, VIEW};
+use codec::layout::{ENTRY, MESSAGE};
 use codec::records::{message_plain, read_message, read_view, view_plain, write_entry};
 use protocol::{Choice, Message, MessageNumber, Refusal, View, ViewNumber};
 use values::sizes;
@@ -32,7 +32,7 @@ fn open_by(phase: &mut [u8; PHASE], h: Head) -> Result<(), Refusal>
     Ok(())
 }
 
-// Opens a phase of a kind and its request, or the END of a view: 1, 3.
+// Opens a phase of a kind and its request, or the END of a view: 1, 3. The kind may be any number, as a host hands it in.
 #[tactic(auto, unfolding(crate::specs::Calls::open_on, protocol::specs::Tools::guard))]
 pub fn open(
     phase: &mut [u8],
@@ -131,8 +131,8 @@ fn answer_by(
     Ok(write_closed(entry, take(phase, m, v)))
 }
 
-// One answer, with the view that it is tagged with, is given to a phase: 1, 3, 5, 7, 8. None, the phase is still open; else it is closed,
-// and whether a read may end with it.
+// One answer, with the view that it is tagged with, is given to a phase: 1, 3, 5, 7, 8. None, the phase is still open; else it
+// is closed, and whether a read may end with it.
 #[tactic(auto, unfolding(crate::specs::Calls::answer_on, protocol::specs::Tools::guard))]
 pub fn answer(phase: &mut [u8], call: &[u8], entry: &mut [u8]) -> Result<Option<bool>, Refusal>
     ensures { Answers result phase.new entry.new phase.old entry.old (answer_on phase.old call.now entry.old) }

@@ -1,5 +1,5 @@
-// A phase of a client, or an END of the administrator, as a lent record of the answers taken so far: opened, and given one answer at a
-// time until it is closed.
+// A phase of a client, or an END of the administrator, as a lent record of the answers taken so far: opened, and given one
+// answer at a time until it is closed.
 #![tactic(auto)]
 
 pub mod call;

@@ -1,10 +1,10 @@
 // The record of a phase as bytes: its head and its tallies, read, written, and their ranges tested.
 // A number in range stays a number: a type for it would be made and taken apart at each call, with the same goal.
-ghost use Rattle.std.specs.Prelude.{◌≡◌, ◌+◌, ◌≤◌, length};
+ghost use Rattle.std.specs.Prelude.{◌≡◌, ◌+◌, ◌≤◌};
 ghost use Rattle.protocol.specs.Sizes.{views};
 ghost use Rattle.codec.specs.Lists.{part, put};
 ghost use Rattle.phases.specs.Layout.{tally_place, tally_width};
-ghost use Rattle.phases.specs.Records.{head_at, head_bytes, ended_fits, open_fits, head_fits, tally_read, tally_plain, unheard_fits, tally_rule, tally_at, put_tally, plain_at, tally_fits};
+ghost use Rattle.phases.specs.Records.{head_at, head_bytes, open_fits, head_fits, tally_read, tally_plain, unheard_fits, tally_rule, tally_at, put_tally, plain_at, tally_fits};
 
 use super::layout::{
     BEST_AT, DIFFER_AT, HEAD, HEAD_KIND_AT, HEAD_REQUEST_AT, HEAD_VIEW_AT, HEARD_AT, PHASE, TALLY,
@@ -21,6 +21,7 @@ use values::tally::Tally;
 // What is open: the kind of its request, the view that END ends, and the request's number; all 0 where nothing is.
 #[derive(Clone, Copy, Debug, Default, PartialEq, Eq)]
 pub struct Head {
+    // A number: the record's byte may be any.
     pub kind: u8,
     pub view: ViewNumber,
     pub request: MessageNumber,
@@ -48,8 +49,8 @@ pub fn store_head(phase: &mut [u8; PHASE], h: Head)
     put16(phase, HEAD_REQUEST_AT, h.request.0);
 }
 
-// A phase that is open: of kind 1 to 3, with the number of its request. END names the view that it ends, which is not the last, READ and
-// WRITE name none.
+// A phase that is open: of kind 1 to 3, with the number of its request. END names the view that it ends, which is not the last,
+// READ and WRITE name none.
 #[tactic(auto, unfolding(crate::specs::Records::open_fits))]
 pub fn open_fits(h: Head) -> bool
     ensures { result ≡ open_fits h }

@@ -31,6 +31,7 @@ pub fn count_answer(a: Tally, m: Message) -> Tally
 }
 
 // How many servers close a phase: READ the read size, WRITE and END the write size.
+// The kind is the number of the record, which holds READ, WRITE or END.
 fn size_by(kind: u8, v: View) -> u32
     ensures { result ≡ size_by kind v }
 {
@@ -49,6 +50,7 @@ fn counts(h: Head, t: ViewNumber) -> bool
 }
 
 // Whether a read may end with its READ phase.
+// The kind is the number of the record.
 fn may_end(kind: u8, one: bool, v: View) -> bool
     ensures { result ≡ may_end kind one v }
 {

@@ -85,7 +85,8 @@ unfolding count_to
 count_one q k zero l h e = absurd (omega arith)
 count_one q k (suc n) l h e = go (last_or k n h) (λ j. count_one q k n l j e)
   where
-    go : (k ≡ suc n) ⊎ (k ≤ n) → (k ≤ n → count_to q n + 1 ≤ count_to (λ i. eqb i k || q i) n) → count_to q n + bit (q (suc n)) + 1 ≤ count_to (λ i. eqb i k || q i) n + bit (eqb (suc n) k || q (suc n))
+    go : (k ≡ suc n) ⊎ (k ≤ n) → (k ≤ n → count_to q n + 1 ≤ count_to (λ i. eqb i k || q i) n)
+        → count_to q n + bit (q (suc n)) + 1 ≤ count_to (λ i. eqb i k || q i) n + bit (eqb (suc n) k || q (suc n))
     go (inl j) f =
         omega (arith, count_more (λ i. eqb i k) q n, ap (λ (b : Bool). bit (b || q (suc n))) (eq-eqb (suc n) k (sym j)), ap bit (ap q (sym j) ∙ e))
     go (inr j) f = omega (arith, f j, bit_or_lem (eqb (suc n) k) (q (suc n)))

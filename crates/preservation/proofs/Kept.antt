@@ -632,14 +632,14 @@ gives_up_kept {w} h {c} i a e =
 -- ---- a restart
 
 -- "the END is that of newest": what is known of an open END
-pub record Ended (w : World) (r : ℕ) : Type 0 where
+pub record ViewEnded (w : World) (r : ℕ) : Type 0 where
   pub room : newest w < views
   pub sent : is_sent w r END 0 ≡ true
   pub is : (message w r).kind ≡ END
   pub tag : (message w r).view.0 ≡ newest w
   pub full : Rooted w r
 
-pub ended : {w : World} → Formed w → (r : MessageNumber) → w.administrator.ending ≡ Some r → Ended w r.0
+pub ended : {w : World} → Formed w → (r : MessageNumber) → w.administrator.ending ≡ Some r → ViewEnded w r.0
 unfolding is_sent
 ended {w} h r e =
     let f = subst (λ (x : Ending). ending_fits w x ≡ true) e h.ending in
@@ -661,7 +661,7 @@ end_sent None e = clash e refl
 end_sent (Some r) e = (r, refl)
 
 -- the END of w with the number r, emptied
-module _ {w : World} (h : Formed w) {r : ℕ} (d : Ended w r) where
+module _ {w : World} (h : Formed w) {r : ℕ} (d : ViewEnded w r) where
   stopped_kept : Formed (with_administrator (emptied w r) w.administrator)
   unfolding emptied as_sent with_administrator
   stopped_kept = formed_emptied h d.full

@@ -52,7 +52,8 @@ module _ (w : World) (h : Formed w) (r : ℕ) (p : present w r ≡ true) where
           let i = (sent_kind w n.0 END 0 (and_left _ _ (and_right (ltb (newest w) views) _ f))).0 in
           subst (λ (k : ℕ). (message w k).kind ≡ END) e i
 
-      go : (x : Ending) → end_of x ≡ r → ending_fits w x ≡ true → if (eqb (message w r).kind END) (eqb (end_of w.administrator.ending) r) (eqb (request_of (client w (message w r).sender).phase) r) ≡ true
+      go : (x : Ending) → end_of x ≡ r → ending_fits w x ≡ true
+          → if (eqb (message w r).kind END) (eqb (end_of w.administrator.ending) r) (eqb (request_of (client w (message w r).sender).phase) r) ≡ true
       go x e f = rw (eq-eqb _ _ (kind x e f)) (eq-eqb _ _ q)
 
 -- "Take: 7, ... its request is neither that of an open phase nor the END number": what `open?` asks of the sender's phase alone is

@@ -10,7 +10,7 @@ use Rattle.protocol.specs.Worlds.{World, view, server, client, message, newest, 
 use Rattle.protocol.specs.Chains.{follow, chain, heard, enough, shown, agreed}
 use Rattle.protocol.specs.Steps.{row_of, fields_fit, begins, gives_up, deliver, link, open?, closes, starts, takes, take, fault, source?, lie, new_view, perform, step, emptied, restarts}
 use Rattle.protocol.specs.Consistent.{Operation}
-use Rattle.protocol.specs.Runs.{step_of, step_bytes, Replayed, replay, tracked, Run, run, run_from, entry_of, operation, history}
+use Rattle.protocol.specs.Runs.{step_of, step_bytes, Replayed, replay, tracked, Run, run, run_from, operation_entry, operation, history}
 
 -- ---- steps, in bytes
 
@@ -57,7 +57,7 @@ run_of bits f steps = run_from (begun bits f) steps
 
 -- its operations
 unfoldable pub operations_of : ℕ → ℕ → List (List ℕ) → List Operation
-unfolding run_of history operation entry_of
+unfolding run_of history operation operation_entry
 operations_of bits f steps = history (run_of bits f steps)
 
 -- whether the premise holds after it

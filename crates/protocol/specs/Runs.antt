@@ -152,13 +152,13 @@ unfoldable pub run_from : World → List (List ℕ) → Run
 run_from w bs = run (record { world = w; place = 1; operations = [] }) bs
 
 -- "Its entry is that in its client's record in the image after that take, or for an unfinished write that of its WRITE, if sent."
-unfoldable pub entry_of : World → Tracked → Option Entry
-entry_of w o =
+unfoldable pub operation_entry : World → Tracked → Option Entry
+operation_entry w o =
     if (unfinished o) (if (eqb o.kind WRITES && ltb 0 o.write) (Some (message w o.write).entry) None)
     (Some o.entry)
 
 unfoldable pub operation : World → Tracked → Operation
-operation w o = record { kind = o.kind; begin = o.begin; end = o.end; entry = entry_of w o }
+operation w o = record { kind = o.kind; begin = o.begin; end = o.end; entry = operation_entry w o }
 
 unfoldable pub history : Run → List Operation
 history r = map (operation r.world) r.operations

@@ -14,7 +14,7 @@ use Rattle.protocol.specs.Readable.{taken_answer, distinct, ends, chain_fits, me
 use Rattle.protocol.proofs.Laws.Tests.{by_test, clash, or_cases, all_to_at, all_to_lem}
 use Rattle.readable.specs.Tests.{as_one, implied}
 use Rattle.key_holders.specs.Counts.{Each, count_mono, count_ext, count_none, count_same, count_one, count_list, sum_same, sum_ext, swap}
-use Rattle.readable.specs.Links.{Ended, once}
+use Rattle.readable.specs.Links.{Ends, once}
 use Rattle.readable.specs.Formed.{sent_at, taken_answer_lem, in_present, present_in_lem}
 
 -- the walk from n on meets only taken answers of request r, and ends at zero within the links still allowed
@@ -41,7 +41,7 @@ chains_fit w = all_to (chain_sound w) w.used && eqb (sum_to (links w) w.used) (c
 -- ---- the parts of a chain's clause
 
 pub record Chain (w : World) (r : ℕ) : Type 0 where
-  pub ended : Ended w messages (message w r).next.0
+  pub ended : Ends w messages (message w r).next.0
   pub only : all (taken_answer w r) (chain w r) ≡ true
   pub every : all_to (λ k. not (taken_answer w r k) || any (eqb k) (chain w r)) w.used ≡ true
   pub once : distinct (chain w r) ≡ true
@@ -67,7 +67,7 @@ parts_chain w r h =
 
 pub record Sound (w : World) (r left n : ℕ) : Type 0 where
   pub only : all (taken_answer w r) (follow w left n) ≡ true
-  pub ended : Ended w left n
+  pub ended : Ends w left n
 
 pub sound_parts : (w : World) (r left n : ℕ) → sound w r left n ≡ true → Sound w r left n
 unfolding sound
@@ -201,7 +201,7 @@ module _ (w : World) (h : Each w.used (λ k. message_fits w k ≡ true)) where
       ∙ all_taken))
 
   -- a sound chain of a request meets no answer twice
-  sound_links : (r : ℕ) → chain_sound w r ≡ true → asks r ≡ true → (all (taken_answer w r) (chain w r) ≡ true) × (distinct (chain w r) ≡ true) × Ended w messages (message w r).next.0
+  sound_links : (r : ℕ) → chain_sound w r ≡ true → asks r ≡ true → (all (taken_answer w r) (chain w r) ≡ true) × (distinct (chain w r) ≡ true) × Ends w messages (message w r).next.0
   unfolding chain_sound chain
   sound_links r e q =
       let s = sound_parts w r messages (message w r).next.0 (implied (asks r) (sound w r messages (message w r).next.0) e q) in

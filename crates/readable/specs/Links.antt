@@ -8,7 +8,7 @@ use Rattle.protocol.specs.Readable.{distinct}
 use Rattle.protocol.proofs.Laws.Tests.{by_test, clash, or_cases}
 
 -- one more link allowed meets no more
-pub record Ended (w : World) (left n : ℕ) : Type 0 where
+pub record Ends (w : World) (left n : ℕ) : Type 0 where
   pub same : length (follow w (suc left) n) ≡ length (follow w left n)
 
 abbrev next : World → ℕ → ℕ
@@ -25,16 +25,16 @@ length_follow w zero n = omega arith
 length_follow w (suc left) zero = omega arith
 length_follow w (suc left) (suc n) = let ih = length_follow w left (next w (suc n)) in omega arith
 
-stuck : {P : Type 0} (w : World) (n : ℕ) → Ended w 0 (suc n) → P
+stuck : {P : Type 0} (w : World) (n : ℕ) → Ends w 0 (suc n) → P
 unfolding follow
 stuck w n e = let q = e.same in absurd (omega arith)
 
-onward : (w : World) (left n : ℕ) → Ended w (suc left) (suc n) → Ended w left (next w (suc n))
+onward : (w : World) (left n : ℕ) → Ends w (suc left) (suc n) → Ends w left (next w (suc n))
 unfolding follow
 onward w left n e = let q = e.same in record { same = omega arith }
 
 -- a walk that ends goes no further with more links allowed
-pub stable : (w : World) (left n more : ℕ) → Ended w left n → left ≤ more → follow w more n ≡ follow w left n
+pub stable : (w : World) (left n more : ℕ) → Ends w left n → left ≤ more → follow w more n ≡ follow w left n
 unfolding follow
 stable w zero zero more e h = follow_zero w more
 stable w zero (suc n) more e h = stuck w n e
@@ -43,7 +43,7 @@ stable w (suc left) (suc n) zero e h = absurd (omega arith)
 stable w (suc left) (suc n) (suc more) e h = ap (λ (l : List ℕ). suc n ∷ l) (stable w left (next w (suc n)) more (onward w left n e) (omega arith))
 
 -- from a number that is met the walk is no longer
-shorter : (w : World) (left n more x : ℕ) → Ended w left n → left ≤ more → any (eqb x) (follow w left n) ≡ true
+shorter : (w : World) (left n more x : ℕ) → Ends w left n → left ≤ more → any (eqb x) (follow w left n) ≡ true
     → length (follow w more x) ≤ length (follow w left n)
 unfolding follow any
 shorter w zero zero more x e h i = clash i refl
@@ -56,7 +56,7 @@ shorter w (suc left) (suc n) more x e h i =
     (or_cases (eqb x (suc n)) (any (eqb x) (follow w left (next w (suc n)))) i)
 
 -- "each one time"
-pub once : (w : World) (left n : ℕ) → Ended w left n → distinct (follow w left n) ≡ true
+pub once : (w : World) (left n : ℕ) → Ends w left n → distinct (follow w left n) ≡ true
 unfolding follow distinct
 once w zero n e = refl
 once w (suc left) zero e = refl
@@ -74,14 +74,14 @@ once w (suc left) (suc n) e =
     longer s = omega arith
 
 -- the first number of a walk that ends is 0 or passes what all numbers met pass
-pub first_met : (w : World) (p : ℕ → Bool) (left n : ℕ) → Ended w left n → all p (follow w left n) ≡ true → (n ≡ 0) ⊎ (p n ≡ true)
+pub first_met : (w : World) (p : ℕ → Bool) (left n : ℕ) → Ends w left n → all p (follow w left n) ≡ true → (n ≡ 0) ⊎ (p n ≡ true)
 unfolding follow all
 first_met w p left zero e a = inl refl
 first_met w p zero (suc n) e a = stuck w n e
 first_met w p (suc left) (suc n) e a = inr (both (p (suc n)) (all p (follow w left (next w (suc n)))) a).0
 
 -- and so is the number behind one that is met
-pub next_met : (w : World) (p : ℕ → Bool) (left n x : ℕ) → Ended w left n → all p (follow w left n) ≡ true → any (eqb x) (follow w left n) ≡ true
+pub next_met : (w : World) (p : ℕ → Bool) (left n x : ℕ) → Ends w left n → all p (follow w left n) ≡ true → any (eqb x) (follow w left n) ≡ true
     → (next w x ≡ 0) ⊎ (p (next w x) ≡ true)
 unfolding follow all any
 next_met w p zero zero x e a i = clash i refl

@@ -163,7 +163,8 @@ module _ (i : List ℕ) (size : length i ≡ image_size) (bytes : Bytes i) where
   scan_read : scanned i ≡ true → Read i
   unfolding scanned header_ok view_ok server_ok client_ok messages_ok first_ok message_ok holder_ok
   scan_read e =
-      let a = both (header_ok i) (all_to (view_ok i) views && (all_to (server_ok i) servers && (all_to (client_ok i) clients && (messages_ok i && (chains_fit (decode i) && all_to (holder_ok i) views))))) e in
+      let a = both (header_ok i)
+      (all_to (view_ok i) views && (all_to (server_ok i) servers && (all_to (client_ok i) clients && (messages_ok i && (chains_fit (decode i) && all_to (holder_ok i) views))))) e in
       let b = both (all_to (view_ok i) views) (all_to (server_ok i) servers && (all_to (client_ok i) clients && (messages_ok i && (chains_fit (decode i) && all_to (holder_ok i) views)))) a.1 in
       let c = both (all_to (server_ok i) servers) (all_to (client_ok i) clients && (messages_ok i && (chains_fit (decode i) && all_to (holder_ok i) views))) b.1 in
       let d = both (all_to (client_ok i) clients) (messages_ok i && (chains_fit (decode i) && all_to (holder_ok i) views)) c.1 in

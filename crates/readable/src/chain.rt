@@ -27,8 +27,9 @@ impl Opened<'_> {
             && m.request == request)
     }
 
-    // "From a request the links are followed until zero": from n on, with the links still allowed and those followed so far. It answers
-    // a number: tried as an Option<u16>, it is not compiled to a loop, and the readable test of a full image takes 1.2 times as long.
+    // "From a request the links are followed until zero": from n on, with the links still allowed and those followed so far. It
+    // answers a number: tried as an Option<u16>, it is not compiled to a loop, and the readable test of a full image takes 1.2
+    // times as long.
     #[tactic(auto, using(crate::specs::Scan::open_used, crate::specs::Scan::taken_used, codec::specs::Laws::message_decode, crate::specs::Walks::walked_end, crate::specs::Walks::walked_out, crate::specs::Walks::walked_stray, crate::specs::Walks::walked_on))]
     fn walk(&self, request: MessageNumber, n: MessageNumber, left: u16, links: u16) -> u16
         requires { links + left ≤ messages }

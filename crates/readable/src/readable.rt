@@ -6,7 +6,7 @@ ghost use Rattle.protocol.specs.Tools.{all_to};
 ghost use Rattle.protocol.specs.Readable.{last_of};
 ghost use Rattle.protocol.specs.Sizes.{clients, servers, views};
 ghost use Rattle.codec.specs.Places.{used_at, administrator_at};
-ghost use Rattle.readable.specs.Scan.{Open, header_ok, view_ok, server_ok, client_ok, message_ok, messages_ok};
+ghost use Rattle.readable.specs.Scan.{header_ok, view_ok, server_ok, client_ok, message_ok, messages_ok};
 ghost use Rattle.readable.specs.Readable.{readable as is_readable};
 
 use super::beyond::{beyond_zero, first_zero};
@@ -134,8 +134,5 @@ pub fn scanned(image: &Image) -> bool
 pub fn readable(image: &[u8]) -> bool
     ensures { result ≡ is_readable image.now }
 {
-    let Some(image) = image.as_array() else {
-        return false;
-    };
-    scanned(image)
+    image.as_array().is_some_and(scanned)
 }

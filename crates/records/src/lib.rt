@@ -81,6 +81,7 @@ pub fn idle_fits(a: Client) -> bool
 }
 
 // An open phase is that of a write or a read.
+// The number may be any, as in the bytes of a record.
 pub fn kind_fits(kind: u8) -> bool
     ensures { result ≡ kind_rule kind }
 {

@@ -17,12 +17,12 @@ abbrev pub shown_by : Server → Shown
 shown_by a = record { view = a.view; entry = a.entry }
 
 -- what a server that serves does on kinds 1 to 3
-abbrev pub answered : Server → Message → Result Reply
-answered a m = if (eqb m.kind READ) (read a m) (if (eqb m.kind WRITE) (done (write a m.entry)) (end a m))
+abbrev pub served_by_kind : Server → Message → Result Reply
+served_by_kind a m = if (eqb m.kind READ) (read a m) (if (eqb m.kind WRITE) (done (write a m.entry)) (end a m))
 
 -- kinds 1 to 3: a correct server serves them while it holds the key of its own view
 abbrev pub requested : Server → Message → Result Reply
-requested a m = guard (not a.faulty) 6 (guard (holds a.keys.0 a.view.0) 7 (answered a m))
+requested a m = guard (not a.faulty) 6 (guard (holds a.keys.0 a.view.0) 7 (served_by_kind a m))
 
 -- the server's rule; 3 for a message whose view no key can name
 unfoldable pub serve_in : Server → Message → Bool → Result Reply

@@ -2,12 +2,12 @@
 -- `from_fresh` for what `reduce` did. Used by the proofs of shorten/src and by Promise.antt. Assumes nothing.
 use Prim.Native.Nat.{ℕ, zero, suc, ◌*◌, ◌-◌, ◌/◌, ◌%◌, ◌<◌}
 use native.Mathlib.Omega.{arith}
-use Rattle.std.specs.Prelude.{true, false, ◌≡◌, eqb, leb, None, Some, Result as Outcome, Ok, Err}
+use Rattle.std.specs.Prelude.{Bool, true, false, ◌≡◌, eqb, leb, None, Some, Result as Outcome, Ok, Err}
 use Rattle.std.proofs.Math.Path.{refl, sym, ap, ap₂}
 use Rattle.std.proofs.Common.{◌∙◌, drop_of_length-le, take_all}
 use mathlib.Core.List.{List, ◌++◌, append-nil}
 use Rattle.std.proofs.Math.ListN.{length}
-use borrow.Author.Tests.{eqb-true, ne_eqb, leb-true, lt-ltb}
+use borrow.Author.Tests.{eqb-true, eq-eqb, ne_eqb, leb-true, lt-ltb}
 use Rattle.std.specs.Simd.{first_chunks}
 use Rattle.protocol.specs.declared.View.{View}
 use Rattle.protocol.specs.Tools.{refused, done, guard}
@@ -27,7 +27,7 @@ use Rattle.protocol.specs.declared.refusals.Refusal.{Refusal}
 use Rattle.protocol.specs.declared.refusals.Refusal.TheVariants.{WrongLength, NoRefusal}
 use Rattle.protocol.specs.Refusals.{refusal_number, refusal_some}
 use Rattle.shorten.specs.Passes.{passes}
-use Rattle.shorten.specs.Journals.{Shortening, most_steps, filled, stops_with, short_journal, shortened, ended, lent_well, shorten_on}
+use Rattle.shorten.specs.Journals.{Shortening, most_steps, filled, stops_with, short_journal, shortened, ended, steps_lent, lent_well, shorten_on}
 use Rattle.shorten.specs.Buffers.{bytes_steps, Held, Leaves}
 use Rattle.shorten.specs.Lent.{Shortens, Begins, started, fresh_begins, fresh_refused, fresh_stays}
 use Rattle.shorten.specs.Trials.{begun_world}
@@ -90,6 +90,10 @@ module _ (v : View) (b : Begins v) (i j s : List ℕ) (e : i ≡ encode (fresh_w
       positive : (n : ℕ) → (n ≡ 0 → ⊥) → 0 < n
       positive zero f = absurd (f refl)
       positive (suc n) f = omega arith
+
+-- on the bytes of an image
+pub lent_image : (i j s : List ℕ) → length i ≡ image_size → (b : Bool) → b ≡ steps_lent j s → b ≡ lent_well i j s
+lent_image i j s h b e = rw (eq-eqb (length i) image_size h) e
 
 pub lent_well_lem : (i j s : List ℕ) → lent_well i j s ≡ true → Lent i j s
 lent_well_lem i j s e =

@@ -73,9 +73,13 @@ pub record Shortening : Type 0 where
   pub image : List ℕ
   pub shorter : List ℕ
 
--- "1, over 512 steps or a buffer of wrong length": the image i, the journal j, and the buffer s "as long as the first"
+-- "1, over 512 steps or a buffer of wrong length": the journal j, and the buffer s "as long as the first"
+abbrev pub steps_lent : List ℕ → List ℕ → Bool
+steps_lent j s = eqb (length j % step_width) 0 && (leb (length j / step_width) most_steps && eqb (length s) (length j))
+
+-- and the image i
 abbrev pub lent_well : List ℕ → List ℕ → List ℕ → Bool
-lent_well i j s = eqb (length i) image_size && (eqb (length j % step_width) 0 && (leb (length j / step_width) most_steps && eqb (length s) (length j)))
+lent_well i j s = eqb (length i) image_size && steps_lent j s
 
 -- "When done, and after 15, the image holds the fresh world; 15 is the one refusal that writes the image"
 abbrev pub ended : World → List ℕ → Result (List (List ℕ)) → Shortening

@@ -143,7 +143,8 @@ module _ (w : World) (y : Refusal) (s : List ℕ) (n place : ℕ) (held : Held s
   unfolding dropped
   step_stays h = rw (ne_eqb (replay w (without (steps_in n s) place)).refusal (refusal_number y) (λ e. eqb-false _ _ (sym h) (tried_is ∙ e))) (held_leaves s n held)
 
-  pub step_goes : (s' : List ℕ) → true ≡ eqb (stopped_by o) (refusal_number y) → s' ≡ removed s (place * step_width) → Leaves (n - 1) s' (length s) (dropped (stops_with w (refusal_number y)) (steps_in n s) place)
+  pub step_goes : (s' : List ℕ) → true ≡ eqb (stopped_by o) (refusal_number y) → s' ≡ removed s (place * step_width)
+      → Leaves (n - 1) s' (length s) (dropped (stops_with w (refusal_number y)) (steps_in n s) place)
   unfolding dropped
   step_goes s' h e =
       let k = length_steps n s in

@@ -8,20 +8,20 @@ ghost use Rattle.codec.specs.Images.{encode};
 ghost use Rattle.image.specs.Steps.{steps_in, steps_of};
 ghost use Rattle.journal.specs.Replays.{stopped_by};
 ghost use Rattle.shorten.specs.Passes.{without as without_step, dropped, sweep, passes as passes_of};
-ghost use Rattle.shorten.specs.Journals.{stops_with, ended, shortened, lent_well, shorten_on};
+ghost use Rattle.shorten.specs.Journals.{stops_with, ended, shortened, steps_lent, shorten_on};
 ghost use Rattle.shorten.specs.Buffers.{Held, Leaves, moved_down, removed};
 ghost use Rattle.shorten.specs.Lent.{Begins, Shortens};
 
 use codec::bytes::{clear, put_bytes};
 use codec::layout::{Image, STEP};
-use image::fresh::fresh;
+use image::fresh::fresh_view;
 use journal::replay::play;
 use protocol::{Refusal, ServerSet, View};
 
 // "at most 512 steps"
 const MOST_STEPS: usize = 512;
 
-// Moves all bytes behind a step to its place.
+// Moves all bytes behind a step to its place. The buffer is handed back whole, so a step in it is named by its place.
 fn move_down(shorter: &mut [u8], at: usize)
     requires { at + step_width ≤ length shorter.old }
     ensures { shorter.new ≡ moved_down shorter.old at }
@@ -58,8 +58,7 @@ impl Start {
     fn write(self, image: &mut Image)
         ensures { image.new ≡ encode (fresh_world self.view) }
     {
-        let v = self.view;
-        let _ = fresh(image, v.members.0, v.f, v.r);
+        let _ = fresh_view(image, self.view);
     }
 
     // The refusal of a journal's replay from the fresh world without the step at a place, if it is refused.
@@ -134,7 +133,8 @@ impl Start {
         left
     }
 
-    // From the image of the fresh world: "15, the replay stops on no refusal".
+    // From the image of the fresh world: "15, the replay stops on no refusal". The journal comes as its bytes, since these are
+    // copied.
     fn reduce(self, image: &mut Image, journal: &[u8], shorter: &mut [u8]) -> Result<usize, Refusal>
         requires { (image.old ≡ encode (fresh_world self.view)) × (length journal.now % step_width ≡ 0) × (length shorter.old ≡ length journal.now) }
         ensures { Shortens result image.new shorter.new (ended (fresh_world self.view) shorter.old (shortened (fresh_world self.view) (steps_of journal.now))) }
@@ -152,34 +152,27 @@ impl Start {
 }
 
 // "1, over 512 steps or a buffer of wrong length"
-fn lent_well(image: &Image, journal: &[u8], shorter: &[u8]) -> bool
-    ensures { result ≡ lent_well image.now journal.now shorter.now }
+fn steps_lent(journal: &[u8], shorter: &[u8]) -> bool
+    ensures { result ≡ steps_lent journal.now shorter.now }
 {
     journal.len() % STEP == 0
         && journal.len() / STEP <= MOST_STEPS
         && shorter.len() == journal.len()
 }
 
-// The same on the bytes of an image.
+// `shorten` on the bytes of an image.
 fn begun(
     image: &mut Image,
-    members: u32,
-    f: u8,
-    r: u8,
+    view: View,
     journal: &[u8],
     shorter: &mut [u8],
 ) -> Result<usize, Refusal>
-    ensures { Shortens result image.new shorter.new (shorten_on image.old members f r journal.now shorter.old) }
+    ensures { Shortens result image.new shorter.new (shorten_on image.old view.members.0 view.f view.r journal.now shorter.old) }
 {
-    if !lent_well(image, journal, shorter) {
+    if !steps_lent(journal, shorter) {
         return Err(Refusal::WrongLength);
     }
-    fresh(image, members, f, r)?;
-    let view = View {
-        members: ServerSet(members),
-        f,
-        r,
-    };
+    fresh_view(image, view)?;
     Start { view }.reduce(image, journal, shorter)
 }
 
@@ -197,5 +190,10 @@ pub fn shorten(
     let Some(image) = image.as_mut_array() else {
         return Err(Refusal::WrongLength);
     };
-    begun(image, members, f, r, journal, shorter)
+    let view = View {
+        members: ServerSet(members),
+        f,
+        r,
+    };
+    begun(image, view, journal, shorter)
 }

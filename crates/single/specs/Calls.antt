@@ -12,7 +12,7 @@ use Rattle.codec.specs.Lists.{part, put, put_all}
 use Rattle.codec.specs.Bytes.{clear}
 use Rattle.codec.specs.Records.{entry_of, view_of, server_of, server_bytes, client_of, client_bytes, message_of, administrator_of, administrator_bytes}
 use Rattle.codec.specs.Records.{length_server_bytes, length_client_bytes, length_administrator_bytes, entry_plain, view_plain, server_plain, client_plain, message_plain, administrator_plain}
-use Rattle.single.specs.Rules.{server_rule, client_rule, administrator_rule}
+use Rattle.single.specs.Rules.{server_asked, client_asked, administrator_asked}
 
 -- what is asked begins with four bytes of its own: the rule, three more by the machine
 abbrev pub rule_place : ℕ
@@ -47,7 +47,7 @@ server_call s b =
     (guard (server_plain s) 3
     (guard (clear b server_spare_place) 3
     (guard (message_plain (part b asked message_width)) 3
-    (server_rule (server_of s) (message_of (part b asked message_width)) (get_or b rule_place 0) (get_or b flag_place 0) (get_or b asked_view_place 0))))))
+    (server_asked (server_of s) (message_of (part b asked message_width)) (get_or b rule_place 0) (get_or b flag_place 0) (get_or b asked_view_place 0))))))
 
 -- what is asked of a client ends with a flag: all answers of the chosen view carry the entry, and the view permits one exchange
 abbrev pub one_place : ℕ
@@ -60,7 +60,7 @@ client_call c b =
     (guard (eqb (length b) (one_place + 1)) 1
     (guard (client_plain c) 3
     (guard (entry_plain (part b asked entry_width)) 3
-    (client_rule (client_of c) (get_or b rule_place 0) (get_or b client_number_place 0) (u16_at b number_place) (entry_of (part b asked entry_width)) (get_or b one_place 0)))))
+    (client_asked (client_of c) (get_or b rule_place 0) (get_or b client_number_place 0) (u16_at b number_place) (entry_of (part b asked entry_width)) (get_or b one_place 0)))))
 
 -- rule u8, 1 zero, number u16, view
 unfoldable pub administrator_call : List ℕ → List ℕ → Result Administrator
@@ -70,7 +70,7 @@ administrator_call a b =
     (guard (administrator_plain a) 3
     (guard (clear b administrator_spare_place) 3
     (guard (view_plain (part b asked view_width)) 3
-    (administrator_rule (administrator_of a) (get_or b rule_place 0) (u16_at b number_place) (view_of (part b asked view_width)))))))
+    (administrator_asked (administrator_of a) (get_or b rule_place 0) (u16_at b number_place) (view_of (part b asked view_width)))))))
 
 -- ---- what a call answers, and the record that it leaves: "A refusal changes no byte"
 

@@ -20,8 +20,8 @@ stays a n = if (eqb n 0) (done (record { server = a; answer = None })) (refused 
 
 -- 3 deliver: the flag says whether the server is in the message's view; 6 false answer with the view t: the flag says whether
 -- what it shows is the empty entry or that of a WRITE sent
-unfoldable pub server_rule : Server → Message → ℕ → ℕ → ℕ → Result Reply
-server_rule a m rule flag t =
+unfoldable pub server_asked : Server → Message → ℕ → ℕ → ℕ → Result Reply
+server_asked a m rule flag t =
     guard (leb flag 1) 3
     (if (eqb rule deliver_step) (guard (eqb t 0) 3 (serve_rule a m (eqb flag 1)))
     (guard (eqb rule false_step) 3 (stays a (number_of (false_answer_rule a t m (eqb flag 1))))))
@@ -53,8 +53,8 @@ flag_fits rule flag = leb flag (bit (eqb rule take_step))
 
 -- a client's rules: those on an operation, and 8 giving up; the flag says whether all answers of the chosen view carry the
 -- entry and the view permits one exchange
-unfoldable pub client_rule : Client → ℕ → ℕ → ℕ → Entry → ℕ → Result Close
-client_rule c rule who n e flag =
+unfoldable pub client_asked : Client → ℕ → ℕ → ℕ → Entry → ℕ → Result Close
+client_asked c rule who n e flag =
     guard (flag_fits rule flag) 3 (if (eqb rule give_up_step) (dropping_rule c who n e) (operation_rule c rule who n e (eqb flag 1)))
 
 -- 7 new view v, END being number n; 4 the close of END
@@ -68,5 +68,5 @@ unfoldable pub restarting_rule : Administrator → ℕ → View → Result Admin
 restarting_rule a n v = guard (eqb n 0) 3 (restart_rule a v)
 
 -- the administrator's rules: those on views, and a restart
-unfoldable pub administrator_rule : Administrator → ℕ → ℕ → View → Result Administrator
-administrator_rule a rule n v = if (eqb rule restart_step) (restarting_rule a n v) (calling_rule a rule n v)
+unfoldable pub administrator_asked : Administrator → ℕ → ℕ → View → Result Administrator
+administrator_asked a rule n v = if (eqb rule restart_step) (restarting_rule a n v) (calling_rule a rule n v)

@@ -1,13 +1,13 @@
-// The calls of single machines: a record and what is asked of it, as lent bytes. They stay three functions: only the tests of the two
-// lengths are common, and the records, their order of bytes and the spare ones are each machine's own.
+// The calls of single machines: a record and what is asked of it, as lent bytes. They stay three functions: only that both are made
+// arrays is common, and the records, their order of bytes and the spare ones are each machine's own.
 ghost use Rattle.std.specs.Prelude.{◌≡◌};
 ghost use Rattle.protocol.specs.Refusals.{outcome, outcome_by};
 ghost use Rattle.protocol.specs.Clients.{closing};
 ghost use Rattle.single.specs.Calls.{server_call, client_call, administrator_call};
 
-use super::rules::{administrator_rule, client_rule, server_rule};
+use super::rules::{administrator_asked, client_asked, server_asked};
 use codec::bytes::{array_at, get16};
-use codec::layout::{ADMINISTRATOR, CLIENT, ENTRY, MESSAGE, SERVER, U8, U16, VIEW};
+use codec::layout::{ENTRY, MESSAGE, U8, U16, VIEW};
 use codec::records::{
     administrator_plain, client_plain, entry_plain, message_plain, read_administrator, read_client,
     read_entry, read_message, read_server, read_view, server_plain, view_plain,
@@ -58,7 +58,7 @@ pub fn server_call(server: &[u8], call: &[u8]) -> Result<Reply, Refusal>
     }
     let a = read_server(server);
     let m = read_message(asked);
-    server_rule(a, m, call[RULE_AT], call[FLAG_AT], call[VIEW_AT])
+    server_asked(a, m, call[RULE_AT], call[FLAG_AT], call[VIEW_AT])
 }
 
 // "rule u8, client u8, number u16, entry, one u8"
@@ -79,7 +79,7 @@ pub fn client_call(client: &[u8], call: &[u8]) -> Result<Closing, Refusal>
     let c = read_client(client);
     let e = read_entry(asked);
     let n = MessageNumber(get16(call, NUMBER_AT));
-    client_rule(c, call[RULE_AT], call[CLIENT_AT], n, e, call[ONE_AT])
+    client_asked(c, call[RULE_AT], call[CLIENT_AT], n, e, call[ONE_AT])
 }
 
 // "rule u8, 1 zero, number u16, view"
@@ -103,5 +103,5 @@ pub fn administrator_call(administrator: &[u8], call: &[u8]) -> Result<Administr
     let a = read_administrator(administrator);
     let v = read_view(asked);
     let n = MessageNumber(get16(call, NUMBER_AT));
-    administrator_rule(a, call[RULE_AT], n, v)
+    administrator_asked(a, call[RULE_AT], n, v)
 }

@@ -1,8 +1,8 @@
-// The rules of single machines, chosen by number.
+// The rules of single machines, chosen by number: a byte of a host's call, which may hold any.
 ghost use Rattle.std.specs.Prelude.{◌≡◌};
 ghost use Rattle.protocol.specs.Refusals.{outcome, outcome_by};
 ghost use Rattle.protocol.specs.Clients.{closing};
-ghost use Rattle.single.specs.Rules.{server_rule, client_rule, administrator_rule};
+ghost use Rattle.single.specs.Rules.{server_asked, client_asked, administrator_asked};
 
 use checked::rules;
 use protocol::{
@@ -11,9 +11,9 @@ use protocol::{
 };
 
 // A server's rules, by the kinds of their steps: 3 deliver, 6 false answer.
-#[tactic(auto, unfolding(crate::specs::Rules::server_rule, protocol::specs::Tools::guard))]
-pub fn server_rule(a: Server, m: Message, rule: u8, flag: u8, view: u8) -> Result<Reply, Refusal>
-    ensures { outcome result ≡ server_rule a m rule flag view }
+#[tactic(auto, unfolding(crate::specs::Rules::server_asked, protocol::specs::Tools::guard))]
+pub fn server_asked(a: Server, m: Message, rule: u8, flag: u8, view: u8) -> Result<Reply, Refusal>
+    ensures { outcome result ≡ server_asked a m rule flag view }
 {
     if flag > 1 {
         return Err(Refusal::Unfit);
@@ -31,10 +31,11 @@ pub fn server_rule(a: Server, m: Message, rule: u8, flag: u8, view: u8) -> Resul
     }
 }
 
-// A client's rules, by the kinds of their steps: 1 write, 2 read, 4 the close by an answer taken, whose flag says whether all answers
-// of the chosen view carry the entry and the view permits one exchange, and 8 giving up. What a rule does not use is zero.
-#[tactic(auto, unfolding(crate::specs::Rules::client_rule, crate::specs::Rules::operation_rule, crate::specs::Rules::dropping_rule, protocol::specs::Tools::guard, protocol::specs::Entries::same))]
-pub fn client_rule(
+// A client's rules, by the kinds of their steps: 1 write, 2 read, 4 the close by an answer taken, whose flag says whether all
+// answers of the chosen view carry the entry and the view permits one exchange, and 8 giving up. What a rule does not use is
+// zero.
+#[tactic(auto, unfolding(crate::specs::Rules::client_asked, crate::specs::Rules::operation_rule, crate::specs::Rules::dropping_rule, protocol::specs::Tools::guard, protocol::specs::Entries::same))]
+pub fn client_asked(
     c: Client,
     rule: u8,
     who: u8,
@@ -42,7 +43,7 @@ pub fn client_rule(
     e: Entry,
     flag: u8,
 ) -> Result<Closing, Refusal>
-    ensures { outcome_by closing result ≡ client_rule c rule who n.0 e flag }
+    ensures { outcome_by closing result ≡ client_asked c rule who n.0 e flag }
 {
     let bare = flag == 0 && who == 0 && e.stamp == Stamp::default();
     match StepKind::try_from(rule) {
@@ -58,16 +59,16 @@ pub fn client_rule(
     }
 }
 
-// The administrator's rules, by the kinds of their steps: 7 new view, 4 the close of END by an answer taken, and 9 a restart. What a
-// rule does not use is zero.
-#[tactic(auto, unfolding(crate::specs::Rules::administrator_rule, crate::specs::Rules::calling_rule, crate::specs::Rules::restarting_rule, protocol::specs::Tools::guard))]
-pub fn administrator_rule(
+// The administrator's rules, by the kinds of their steps: 7 new view, 4 the close of END by an answer taken, and 9 a restart.
+// What a rule does not use is zero.
+#[tactic(auto, unfolding(crate::specs::Rules::administrator_asked, crate::specs::Rules::calling_rule, crate::specs::Rules::restarting_rule, protocol::specs::Tools::guard))]
+pub fn administrator_asked(
     a: Administrator,
     rule: u8,
     n: MessageNumber,
     v: View,
 ) -> Result<Administrator, Refusal>
-    ensures { outcome result ≡ administrator_rule a rule n.0 v }
+    ensures { outcome result ≡ administrator_asked a rule n.0 v }
 {
     match StepKind::try_from(rule) {
         Ok(StepKind::NewView) => rules::call_rule(a, v, n),

@@ -1,7 +1,8 @@
 // Answers of an image are taken.
 // That the image is readable is asked, not held by a struct: behind `&mut` its field would have to be proved again at each
-// return.
+// return, and for a reader it would be made for one call.
 // A number in range stays a number: a type for it would be made and taken apart at each call, with the same goal.
+// Numbers are compared by what they hold: with `==` on their types the check does not find the answers.
 ghost use Rattle.std.specs.Prelude.{◌≡◌, ◌≤◌, ◌<◌};
 ghost use Rattle.protocol.specs.Sizes.{clients, views};
 ghost use Rattle.protocol.specs.Worlds.{newest as newest_of};

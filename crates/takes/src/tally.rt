@@ -1,6 +1,6 @@
-// The tally of an answer's view along the chain of its request.
-// That the image is readable is asked, not held by a struct: behind `&mut` its field would have to be proved again at each
-// return.
+// The tally of an answer's view along the chain of its request. That the image is readable is asked of the walk (`Walk`): a struct
+// that holds it would be made for one call.
+// Numbers are compared by what they hold: with `==` on their types the check does not find the answers.
 ghost use Rattle.std.specs.Prelude.{◌≡◌, ◌/◌, ◌%◌, ◌^◌, ◌≤◌, eqb};
 ghost use Rattle.protocol.specs.Sizes.{messages};
 ghost use Rattle.codec.specs.Places.{message_at};
@@ -82,8 +82,8 @@ impl Gathered {
 }
 
 // "From a request the links are followed until zero": the tally of view t from message n on, with the links still allowed; g has
-// what the answers before it show. An answer of another view changes nothing. All that it carries and answers is numbers, which
-// stay in registers.
+// what the answers before it show. An answer of another view changes nothing. All that it carries and answers fits in registers,
+// so it is compiled to a loop.
 pub fn gather(image: &Image, t: ViewNumber, n: MessageNumber, left: u16, g: Gathered) -> Gathered
     requires { Walk image.now left n.0 }
     ensures { Gathers (decode image.now) result.bits (tally_on (decode image.now) t.0 g.bits left n.0) }

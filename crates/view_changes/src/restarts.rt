@@ -1,6 +1,6 @@
 // Restarts of the administrator on an image.
 // That the image is readable is asked, not held by a struct: behind `&mut` its field would have to be proved again at each
-// return.
+// return, and for a reader it would be made for one call.
 ghost use Rattle.std.specs.Prelude.{◌≡◌, Ok, None};
 ghost use Rattle.protocol.specs.Worlds.{as_sent};
 ghost use Rattle.protocol.specs.Chains.{follow};

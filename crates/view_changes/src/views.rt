@@ -1,6 +1,6 @@
 // New views of an image.
 // That the image is readable is asked, not held by a struct: behind `&mut` its field would have to be proved again at each
-// return.
+// return, and for a reader it would be made for one call.
 ghost use Rattle.protocol.specs.Steps.{new_view};
 ghost use Rattle.codec.specs.Images.{decode};
 ghost use Rattle.mail.specs.Images.{Legible, Does};

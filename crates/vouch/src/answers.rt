@@ -1,5 +1,6 @@
 // A list of answers as lent bytes, by the answer's number from 1.
-// A number in range stays a number: a type for it would be made and taken apart at each call, with the same goal.
+// An answer is named by its number in the lent bytes, as in the definitions: over a slice of arrays each clause would have to
+// glue them together again.
 ghost use Rattle.std.specs.Prelude.{◌≡◌, ◌≤◌};
 ghost use Rattle.vouch.specs.Answers.{answer_count, answerer, entry_shown};
 

@@ -1,5 +1,4 @@
 // The two choices on lent bytes: for every list of answers and every number.
-ghost use Rattle.std.specs.Prelude.{◌≡◌};
 ghost use Rattle.protocol.specs.Refusals.{code};
 ghost use Rattle.vouch.specs.Checks.{qualified, vouch_on, threshold_on, Leaves};
 
@@ -40,7 +39,8 @@ pub fn vouch(answers: &[u8], n: u32, b: u32, room: &mut [u8]) -> Result<(), Refu
     write_choice(room, best(answers, |e| candidate(answers, c, e)))
 }
 
-// The second choice, for thresholds; largest is the largest permitted b: 1, 14, 16.
+// The second choice, for thresholds; largest is the largest permitted b: 1, 14, 16. A call of its own, with a clause of 14 and a test
+// that the first has not.
 #[tactic(auto, unfolding(crate::specs::Checks::threshold_on, protocol::specs::Tools::guard))]
 pub fn vouch_threshold(
     answers: &[u8],

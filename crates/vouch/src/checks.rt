@@ -1,5 +1,6 @@
 // The clauses of refusal 14.
-// A number in range stays a number: a type for it would be made and taken apart at each call, with the same goal.
+// An answer is named by its number in the lent bytes, as in the definitions: over a slice of arrays each clause would have to
+// glue them together again.
 ghost use Rattle.std.specs.Prelude.{◌≡◌, ◌≤◌};
 ghost use Rattle.vouch.specs.Answers.{answer_count};
 ghost use Rattle.vouch.specs.Checks.{values_fit, not_before, numbered, answer_fits, answers_fit, sizes_fit, largest_fits, list_fits};

@@ -1,6 +1,6 @@
 // A client begins an operation, or gives it up.
 // That the image is readable is asked, not held by a struct: behind `&mut` its field would have to be proved again at each
-// return.
+// return, and for a reader it would be made for one call.
 // A number in range stays a number: a type for it would be made and taken apart at each call, with the same goal.
 ghost use Rattle.std.specs.Prelude.{◌≤◌};
 ghost use Rattle.protocol.specs.Sizes.{clients};
@@ -15,6 +15,7 @@ use mail::{Stepped, next_number, request, send};
 use protocol::{Entry, MessageKind, MessageNumber, ViewNumber};
 
 // "Write, read: 4, client not idle; 10"
+// The kind is a number: the enum would ask more of callers.
 pub fn begins(image: &mut Image, c: u8, kind: u8, value: u32) -> Stepped
     requires { Legible image.old × (1 ≤ c) × (c ≤ clients) }
     ensures { Does result image.old image.new (begins_on (decode image.old) c kind value) }

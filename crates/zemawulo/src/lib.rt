@@ -1,4 +1,4 @@
-// The C interface. Every answer is refusal + 256 * result.
+// The C interface. Every answer is refusal + 256 * result, which each call puts together from its own answer.
 #![tactic(auto)]
 
 ghost use Rattle.std.specs.Prelude.{◌≡◌, ◌+◌, ◌*◌, ◌%◌, ◌^◌, length};
@@ -12,7 +12,7 @@ ghost use Rattle.journal.specs.Replays.{stopped_by};
 ghost use Rattle.shorten.specs.Journals.{shorten_on};
 ghost use Rattle.phases.specs.Calls.{open_on, Opens, answer_on, given_code};
 ghost use Rattle.vouch.specs.Checks.{vouch_on, threshold_on, Leaves};
-ghost use Rattle.zemawulo.specs.Answers.{packed, sizes_in, flagged, packed_replay, number_or_zero, first_width, first_in, watch_lent, Gives};
+ghost use Rattle.zemawulo.specs.Answers.{packed, sizes_in, flagged, packed_replay, number_or_zero, first_in, watch_lent, Gives};
 ghost use Rattle.single.specs.Calls.{server_call, replied, server_left, client_call, completed, client_left, administrator_call, accepted, administrator_left};
 
 use codec::bytes::put32;
@@ -111,7 +111,8 @@ const FIRST: usize = 2 * U32;
 
 const HALF: u64 = 4294967296;
 
-// The step named by a replay that was watched, unless it was refused with 1 or 2.
+// The step named by a replay that was watched, unless it was refused with 1 or 2. By the number: with a pattern on the refusal the
+// check does not find the equation of the bytes.
 fn write_first(first: &mut [u8; FIRST], done: Watched)
     ensures { first.new ≡ first_in first.old (stopped_by done.replayed.refusal) (number_or_zero done.first) }
 {
@@ -124,8 +125,8 @@ fn write_first(first: &mut [u8; FIRST], done: Watched)
     put32(first, U32, (n / HALF) as u32);
 }
 
-// "A second form of replay also names ... the first accepted step after which the premise does not hold, or 0": refusal, steps done;
-// the step named is written as a u64.
+// "A second form of replay also names ... the first accepted step after which the premise does not hold, or 0": refusal, steps
+// done; the step named is written as a u64.
 #[unsafe(no_mangle)]
 pub extern "C" fn zw_watch(image: &mut [u8], journal: &[u8], first: &mut [u8]) -> u64
     ensures { (result ≡ packed_replay (watch_lent image.old journal.now first.old).played)
@@ -140,8 +141,8 @@ pub extern "C" fn zw_watch(image: &mut [u8], journal: &[u8], first: &mut [u8]) -
     packed_replay(done.replayed)
 }
 
-// "The rest of the journal after the last accepted step can be replayed": what is left of it after its first steps. Refusal, steps
-// done; 1, it has fewer.
+// "The rest of the journal after the last accepted step can be replayed": what is left of it after its first steps. Refusal,
+// steps done; 1, it has fewer.
 #[unsafe(no_mangle)]
 pub extern "C" fn zw_resume(image: &mut [u8], journal: &[u8], steps: u64) -> u64
     ensures { (result ≡ packed_replay (resume_on image.old journal.now steps))
@@ -280,7 +281,8 @@ fn packed_answer(given: Result<Option<bool>, Refusal>) -> u64
     }
 }
 
-// One answer is given to it: refusal; 0 it is open, 1 closed, 2 closed, and a read may end with it. The entry is written when closed.
+// One answer is given to it: refusal; 0 it is open, 1 closed, 2 closed, and a read may end with it. The entry is written when
+// closed.
 #[unsafe(no_mangle)]
 pub extern "C" fn zw_answer(phase: &mut [u8], call: &[u8], entry: &mut [u8]) -> u64
     ensures { Gives result phase.new entry.new phase.old entry.old (answer_on phase.old call.now entry.old) }

@@ -57,8 +57,8 @@ client_sound {w} h c a =
 
 -- ---- write and read
 
-module _ {w : World} (h : Sound w) {c : ℕ} (r : IsClient c) (l : w.used < messages) (kind : ℕ) (a : Client) (i : (client w c).phase ≡ Idle) (p : a.phase ≡ Reading (number (w.used + 1))) (k : a.kind ≡ kind)
-    (g : a.given ≡ (client w c).given) where
+module _ {w : World} (h : Sound w) {c : ℕ} (r : IsClient c) (l : w.used < messages) (kind : ℕ) (a : Client) (i : (client w c).phase ≡ Idle)
+    (p : a.phase ≡ Reading (number (w.used + 1))) (k : a.kind ≡ kind) (g : a.given ≡ (client w c).given) where
   abbrev begun : World
   begun = send (with_client w c a) (request READ c 0 empty)
 

@@ -15,7 +15,13 @@ overflow_add-n c =
     let same : l.number - 1 + 1 ≡ l.number = omega (arith, l.invariant) in
     record {
       fits = raise_fits c.load_holders-n.result c.has.result
-          (omega (arith, low, c.load_holders-n.ensures, ap (λ (i : List ℕ). holder_at i l.number) l.invariant.2, ap (λ (k : ℕ). holder_at (raised c.args.image.now c.args.keys.0 (l.number - 1)) k) same));
+          (omega (
+            arith,
+            low,
+            c.load_holders-n.ensures,
+            ap (λ (i : List ℕ). holder_at i l.number) l.invariant.2,
+            ap (λ (k : ℕ). holder_at (raised c.args.image.now c.args.keys.0 (l.number - 1)) k) same,
+          ));
     }
 
 pub loop-number-preserved : goal.loop-number-preserved

@@ -28,12 +28,14 @@ returns-in_default c =
 pub reply-requires : goal.reply-requires
 reply-requires c =
     let r = c.requires in
-    let f = deliver_correct r.0 c.args.s.0 c.args.n.0 r.1 r.2 (sym c.if-not-present.ensures) _ _ _ _ c.load_message-m.ensures c.load_server-a.ensures c.is_member.ensures c.serve.ensures _ c.in_ok-served.was _ c.in-Some.is in
+    let f = deliver_correct r.0 c.args.s.0 c.args.n.0 r.1 r.2 (sym c.if-not-present.ensures) _ _ _ _ c.load_message-m.ensures c.load_server-a.ensures
+    c.is_member.ensures c.serve.ensures _ c.in_ok-served.was _ c.in-Some.is in
     (r.0, r.1, r.2, f.0, f.1)
 
 pub returns : goal.returns
 returns c =
     let r = c.requires in
     by
-    (deliver_answers r.0 c.args.s.0 c.args.n.0 r.1 r.2 (sym c.if-not-present.ensures) _ _ _ _ c.load_message-m.ensures c.load_server-a.ensures c.is_member.ensures c.serve.ensures _ c.in_ok-served.was _ c.in-Some.is)
+    (deliver_answers r.0 c.args.s.0 c.args.n.0 r.1 r.2 (sym c.if-not-present.ensures) _ _ _ _ c.load_message-m.ensures c.load_server-a.ensures
+    c.is_member.ensures c.serve.ensures _ c.in_ok-served.was _ c.in-Some.is)
     c.reply.ensures

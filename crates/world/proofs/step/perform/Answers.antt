@@ -28,7 +28,9 @@ fault-requires c = let i = who_server c.args.st 5 c.requires.1 (is_kind c.args.s
 
 pub false_answer-requires : goal.false_answer-requires
 unfolding row_of
-false_answer-requires c = let i = who_server c.args.st 6 c.requires.1 (is_kind c.args.st c.in-Ok.is c.in-FalseAnswer.is c.try_from.ensures) refl refl in (c.requires.0, i.low, i.high, source_of c.args.st c.requires.1)
+false_answer-requires c =
+    let i = who_server c.args.st 6 c.requires.1 (is_kind c.args.st c.in-Ok.is c.in-FalseAnswer.is c.try_from.ensures) refl refl in
+    (c.requires.0, i.low, i.high, source_of c.args.st c.requires.1)
 
 pub gives_up-requires : goal.gives_up-requires
 unfolding row_of
@@ -57,9 +59,10 @@ returns-in-GiveUp c = by (as_give_up (decode c.args.image.now) c.args.st (is_kin
 
 pub returns-in-NewView : goal.returns-in-NewView
 returns-in-NewView c =
-    by (as_view (decode c.args.image.now) c.args.st (is_kind c.args.st c.in-Ok.is c.in-NewView.is c.try_from.ensures) ∙ ap (new_view (decode c.args.image.now)) (sym c.view_asked.ensures)) c.new_view.ensures
+    let k = is_kind c.args.st c.in-Ok.is c.in-NewView.is c.try_from.ensures in
+    by (as_view (decode c.args.image.now) c.args.st k ∙ ap (new_view (decode c.args.image.now)) (sym c.view_asked.ensures)) c.new_view.ensures
 
 pub returns-in-Restart : goal.returns-in-Restart
 returns-in-Restart c =
-    by (as_restart (decode c.args.image.now) c.args.st (is_kind c.args.st c.in-Ok.is c.in-Restart.is c.try_from.ensures) ∙ ap (restarts (decode c.args.image.now)) (sym c.view_asked-in-Restart.ensures))
-    c.restarts.ensures
+    let k = is_kind c.args.st c.in-Ok.is c.in-Restart.is c.try_from.ensures in
+    by (as_restart (decode c.args.image.now) c.args.st k ∙ ap (restarts (decode c.args.image.now)) (sym c.view_asked-in-Restart.ensures)) c.restarts.ensures
