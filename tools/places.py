@@ -14,7 +14,7 @@ SHAPED = (
 LINES = {
     "1a enums of the shape of Option or Result": rf"^(pub )?enum ({SHAPED}) ",
     "1b refusals as numbers": rf"\b({REFUSALS})\b|refusal: (u8|n\b|\d)|refusal != 0",
-    "1c kinds as numbers": r"\b(READ|WRITE|END|START|ANSWER|NONE|WRITES|READS|[A-Z]+(_UP)?_STEP)\b|\b(kind|rule): u8",
+    "1c kinds as numbers": r"\b(READ|WRITE|END|START|ANSWER|NONE|WRITES|READS|[A-Z]+(_UP)?_STEP)\b|\b(kind|rule): u8(?!::)",
     "3a while loops": r"^\s*while ",
     "3b for loops over 0..n": r"\bfor \w+ in 0u?\w*\.\.",
     "4a a field copied to its own name": r"^\s+(\w+): \1,?$",
@@ -64,8 +64,8 @@ def twins():
 
 
 def answers():
-    paths = glob.glob("crates/*/proofs/**/Answers.antt", recursive=True)
-    paths += glob.glob("crates/*/proofs/**/Invariants.antt", recursive=True)
+    paths = glob.glob("crates/*/proofs/*/**/Answers.antt", recursive=True)
+    paths += glob.glob("crates/*/proofs/*/**/Invariants.antt", recursive=True)
     return len(paths), sum(len(open(p, encoding="utf-8").readlines()) for p in paths)
 
 

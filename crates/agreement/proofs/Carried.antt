@@ -14,7 +14,8 @@ use Rattle.protocol.proofs.Laws.Sizes.{Sizes, sizes}
 use Rattle.protocol.proofs.Laws.Entries.{◌≼◌, ≼_trans}
 use Rattle.protocol.proofs.Laws.Worlds.{sent}
 use Rattle.protocol.proofs.Laws.Change.{lying, Vote, Votes}
-use Rattle.agreement.proofs.Counting.{beyond, common}
+use Rattle.protocol.proofs.Laws.Counts.{beyond}
+use Rattle.agreement.proofs.Counting.{common}
 use Rattle.agreement.specs.Invariants.{Fair, Again, Root, Based, early, rooted, Before, StartOf}
 use Rattle.agreement.specs.Carried.{Trusted, Holds, Held, Seen, Read}
 

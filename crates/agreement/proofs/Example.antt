@@ -6,7 +6,7 @@ use Rattle.protocol.specs.Entries.{entry, same}
 use Rattle.protocol.specs.Clients.{WRITES, READS}
 use Rattle.protocol.specs.Worlds.{fresh, premise}
 use Rattle.protocol.proofs.Laws.Worlds.{content, sent}
-use Rattle.protocol.proofs.Sessions.{write, read, deliver_to, take_one, fault_of, false_answer, new_view_lem, given_up_lem, begun, run_of, operations_of, premise_after, stop_of, stops, operated}
+use Rattle.protocol.proofs.Sessions.{write, read, deliver_to, take_one, fault_of, false_answer, new_view_lem, given_up_lem, begun, run_of, operations_of, premise_after, stop_of, stops, operated, four}
 use Rattle.protocol.specs.Runs.{run_from}
 use Rattle.agreement.proofs.Sorting.{filter, sort}
 use Rattle.agreement.proofs.Precedence.{compared}
@@ -60,17 +60,13 @@ example_history : operations_of 15 1 example
 unfolding operations_of example
 example_history = refl
 
-begins_four : fresh 15 1 0 ≡ done (begun 15 1)
-unfolding fresh run_of
-begins_four = refl
-
 -- the premise holds at the end
 example_premise : premise (run_from (begun 15 1) example).world ≡ true
 unfolding premise_after example
 example_premise = refl
 
 -- the theorem's order: the write of 9, which did not end, stands in it before the read that returned its entry
-example_order : (linearizable 15 1 0 (begun 15 1) begins_four example example_premise).order
+example_order : (linearizable 15 1 0 (begun 15 1) four example example_premise).order
     ≡ (operated WRITES 2 14 (entry 1 1 7) ∷ operated READS 15 27 (entry 1 1 7) ∷ operated WRITES 39 0 (entry 2 4 9) ∷ operated READS 38 60 (entry 2 4 9) ∷ [])
 unfolding operations_of example linearizable order stands filter sort compared any same sent content
 example_order = refl

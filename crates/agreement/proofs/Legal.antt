@@ -1,9 +1,9 @@
 -- A list of operations in the order of their keys: each read returns the last write before it. Assumes nothing.
 use Rattle.std.proofs.Common.{arith, sym, ap, ◌∙◌, inl, inr}
-use Rattle.std.specs.Prelude.{◌≡◌, refl, ◌⊎◌, List, [], ◌∷◌, map, Option, Some}
+use Rattle.std.specs.Prelude.{◌≡◌, refl, ◌⊎◌, List, [], ◌∷◌, map, Some}
 use Rattle.protocol.specs.declared.Entry.{Entry}
 use Rattle.protocol.specs.Clients.{WRITES, READS}
-use Rattle.protocol.specs.Consistent.{Operation, In, here, there, Before, now, later, Reads, end, write, read}
+use Rattle.protocol.specs.Consistent.{Operation, In, here, there, Reads, end, write, read}
 use Rattle.protocol.proofs.Laws.Entries.{≼_refl}
 use Rattle.agreement.specs.Lists.{Rising, next}
 use Rattle.agreement.specs.Precedence.{◌≺◌, Level, Key, Precedes, by_stamp, by_kind, by_read}
@@ -84,25 +84,3 @@ module _ {A : Type 0} (key : A → Key) (op : A → Operation) where
       go : ((key x).kind ≡ WRITES) ⊎ ((key x).kind ≡ READS) → (Asks (key x).entry l → Reads (Some (key x).entry) (map op l)) → (Asks e l → Reads (Some e) (map op l)) → Reads (Some e) (op x ∷ map op l)
       go (inl k) f g = let r : Reads (op x).entry (map op l) = rw b.entry (f (after_write h a k)) in write (b.kind ∙ k) r
       go (inr k) f g = read (b.kind ∙ k) (b.entry ∙ ap Some (read_entry h a k)) (g (after_read h a k))
-
--- ---- two reads with no write between them
-
-first_read : (e : Option Entry) (l : List Operation) (y : Operation) → Reads e l → In y l → y.kind ≡ READS → ((z : Operation) → z.kind ≡ WRITES → Before z y l → ⊥) → y.entry ≡ e
-first_read e [] y _ x5 h n = elim x5 [ ]
-first_read e (x ∷ l) y (write k r) (here q) h n = absurd (omega (arith, ap (λ (o : Operation). o.kind) q))
-first_read e (x ∷ l) y (write k r) (there i) h n = absurd (n x k (now refl i))
-first_read e (x ∷ l) y (read k f r) (here q) h n = ap (λ (o : Operation). o.entry) (sym q) ∙ f
-first_read e (x ∷ l) y (read k f r) (there i) h n = first_read e l y r i h (λ z t b. n z t (later b))
-
-pub equal_reads : (e : Option Entry) (l : List Operation) (x y : Operation) → Reads e l → x.kind ≡ READS → y.kind ≡ READS → Before x y l
-    → ((z : Operation) → z.kind ≡ WRITES → Before x z l → Before z y l → ⊥) → x.entry ≡ y.entry
-equal_reads e [] x y _ hx hy x8 n = elim x8 [ ]
-equal_reads e (w ∷ l) x y (write k r) hx hy (now q i) n = absurd (omega (arith, ap (λ (o : Operation). o.kind) q))
-equal_reads e (w ∷ l) x y (write k r) hx hy (later b) n = equal_reads w.entry l x y r hx hy b (λ z t f g. n z t (later f) (later g))
-equal_reads e (w ∷ l) x y (read k f r) hx hy (now q i) n =
-    ap (λ (o : Operation). o.entry) (sym q) ∙ f ∙ sym (first_read e l y r i hy (λ z t b. n z t (now q (before_in b)) (later b)))
-  where
-    before_in : {z : Operation} {l : List Operation} → Before z y l → In z l
-    before_in (now e i) = here e
-    before_in (later b) = there (before_in b)
-equal_reads e (w ∷ l) x y (read k f r) hx hy (later b) n = equal_reads e l x y r hx hy b (λ z t f g. n z t (later f) (later g))

@@ -1,13 +1,11 @@
 -- Members of lists, and lists in which each element stands in a relation to all that follow. Assumes nothing.
 use Rattle.std.specs.Prelude.{◌≡◌, refl, ◌⊎◌, List, [], ◌∷◌, ◌++◌, map}
-use Rattle.std.proofs.Common.{sym, ap, ◌∙◌, inl, inr}
+use Rattle.std.proofs.Common.{sym, ◌∙◌, inl, inr}
 use Rattle.protocol.specs.Consistent.{In, here, there}
+use Rattle.protocol.proofs.Laws.Lists.{Image, in_map}
 use Rattle.agreement.specs.Lists.{Rising, empty, next}
 
 module _ {A : Type 0} where
-  pub no_member : {B : Type 0} {x : A} → In x [] → B
-  no_member i = elim i [ ]
-
   pub in_append : (a b : List A) {x : A} → In x (a ++ b) → In x a ⊎ In x b
   in_append [] b i = inr i
   in_append (y ∷ a) b (here e) = inl (here e)
@@ -25,22 +23,6 @@ module _ {A : Type 0} where
   pub in_right : (a b : List A) {x : A} → In x b → In x (a ++ b)
   in_right [] b i = i
   in_right (y ∷ a) b i = there (in_right a b i)
-
--- what an element of the image of a list comes from
-pub record Image {A B : Type 0} (f : A → B) (l : List A) (y : B) : Type 0 where
-  pub of : A
-  pub member : In of l
-  pub is : f of ≡ y
-
-pub in_map : {A B : Type 0} (f : A → B) (l : List A) {y : B} → In y (map f l) → Image f l y
-in_map f [] i = no_member i
-in_map f (x ∷ l) (here e) = record { of = x; member = here refl; is = e }
-in_map f (x ∷ l) (there i) = let r = in_map f l i in record { of = r.of; member = there r.member; is = r.is }
-
-pub map_in : {A B : Type 0} (f : A → B) (l : List A) {x : A} → In x l → In (f x) (map f l)
-map_in {A = A} {B = B} f [] x3 = elim x3 [ ]
-map_in f (y ∷ l) (here e) = here (ap f e)
-map_in f (y ∷ l) (there i) = there (map_in f l i)
 
 module _ {A : Type 0} where
   pub rising_append : {R : A → A → Type 0} (a b : List A) → Rising R a → Rising R b → ((x y : A) → In x a → In y b → R x y) → Rising R (a ++ b)

@@ -6,6 +6,9 @@ use Rattle.std.proofs.Math.Bool.{true, false, not}
 use Rattle.std.proofs.Math.Path.{refl, sym, ap}
 use Rattle.std.proofs.Math.Logic.{inl, inr}
 use Rattle.std.proofs.Math.Dec.{ltb}
+use Rattle.std.specs.Cmp.{first_so, second_so}
+use Rattle.std.proofs.lemmas.Bool.{and_from, or_cases, or_left, or_right}
+use Rattle.std.proofs.lemmas.Option.{same_Some}
 use borrow.Author.Tests.{ltb-true, eqb-true, eq-eqb, ne_eqb, lt-ltb, le-ltb}
 use Rattle.protocol.specs.declared.Entry.{Entry}
 use Rattle.protocol.specs.Tools.{if, any}
@@ -14,11 +17,12 @@ use Rattle.protocol.specs.Clients.{WRITES, READS}
 use Rattle.protocol.specs.Worlds.{World, message}
 use Rattle.protocol.specs.Consistent.{Operation, In, here, there, Before, now, later, Once, none as nobody, one, Stands, completed, surfaced, Ended, Between, Ordered}
 use Rattle.protocol.specs.Runs.{Tracked, unfinished, operation_entry, operation}
-use Rattle.protocol.proofs.Laws.Tests.{and_left, and_right, and_both, or_cases, clash, or_first, or_second}
+use Rattle.protocol.proofs.Laws.Tests.{clash}
 use Rattle.protocol.proofs.Laws.Entries.{◌≼◌, ≼_count, same_is, is_same}
 use Rattle.protocol.proofs.Laws.Worlds.{sent}
+use Rattle.protocol.proofs.Laws.Lists.{in_map, map_in, equal_reads, entry_at_lem}
 use Rattle.agreement.specs.Lists.{Rising, next}
-use Rattle.agreement.proofs.Lists.{in_map, map_in, Related, before, after, equal, related}
+use Rattle.agreement.proofs.Lists.{Related, before, after, equal, related}
 use Rattle.agreement.proofs.Sorting.{filter, in_filter, filter_in, filter_rising, sort, in_sort, sort_in, sort_sorted}
 use Rattle.agreement.specs.Invariants.{Origin, blank, from}
 use Rattle.agreement.specs.Carried.{Trusted, Read}
@@ -28,7 +32,7 @@ use Rattle.agreement.proofs.Operations.{shows_done, shows_sent, chose}
 use Rattle.agreement.specs.Precedence.{◌≺◌, count, Key, Precedes, by_stamp, by_kind, by_read}
 use Rattle.agreement.proofs.Precedence.{≺_not, precedes_trans, precedes_self, compared, precedes_≼, precedes_≺}
 use Rattle.agreement.proofs.Stamps.{unique, entry_done, entry_open, write_sent}
-use Rattle.agreement.proofs.Legal.{Stand, Source, held, Asks, legal, equal_reads}
+use Rattle.agreement.proofs.Legal.{Stand, Source, held, Asks, legal}
 use Rattle.agreement.specs.Order.{returned, stands}
 
 -- an element of a list that passes a test
@@ -48,8 +52,8 @@ any_passes p (x ∷ l) e = go (or_cases (p x) (any p l) e) (any_passes p l)
 
 passes_any : (p : Tracked → Bool) {x : Tracked} {l : List Tracked} → In x l → p x ≡ true → any p l ≡ true
 unfolding any
-passes_any p (here {y} e) h = or_first (p y) _ (ap p e ∙ h)
-passes_any p (there {y} i) h = or_second (p y) _ (passes_any p i h)
+passes_any p (here {y} e) h = or_left (p y) _ (ap p e ∙ h)
+passes_any p (there {y} i) h = or_right (p y) _ (passes_any p i h)
 
 -- two elements of a list: one comes first, or they are one
 data Placed (x y : Operation) (l : List Operation) : Type 0 where
@@ -128,7 +132,7 @@ module _ {w : World} {place : ℕ} {l : List Tracked} (t : Trusted w) (s : Story
     where
       go : (not (unfinished o) ≡ true) ⊎ ((eqb o.kind WRITES && (ltb 0 o.write && returned t s o)) ≡ true) → (1 ≤ o.write) ⊎ (1 ≤ o.end)
       go (inl e) = inr (finished o e)
-      go (inr e) = inl (ltb-true _ _ (and_left _ _ (and_right (eqb o.kind WRITES) _ e)))
+      go (inr e) = inl (ltb-true _ _ (first_so _ _ (second_so (eqb o.kind WRITES) _ e)))
 
   stand_in : {o : Tracked} → In o l → stands t s o ≡ true → In o order
   unfolding order
@@ -221,7 +225,7 @@ module _ {w : World} {place : ℕ} {l : List Tracked} (t : Trusted w) (s : Story
     where
       go : Stood o → (not (unfinished o) ≡ true) ⊎ ((eqb o.kind WRITES && (ltb 0 o.write && returned t s o)) ≡ true) → Dec (o.end ≡ 0) → operation_entry w o ≡ Some (shows o)
       go d (inl e) z = entry_done s o (finished o e)
-      go d (inr e) (yes z) = entry_open s o z (eqb-true _ _ (and_left _ _ e)) (ltb-true _ _ (and_left _ _ (and_right (eqb o.kind WRITES) _ e)))
+      go d (inr e) (yes z) = entry_open s o z (eqb-true _ _ (first_so _ _ e)) (ltb-true _ _ (first_so _ _ (second_so (eqb o.kind WRITES) _ e)))
       go d (inr e) (no z) = entry_done s o (omega arith)
 
   abbrev op : Tracked → Operation
@@ -238,15 +242,15 @@ module _ {w : World} {place : ℕ} {l : List Tracked} (t : Trusted w) (s : Story
     where
       go : (not (unfinished o) ≡ true) ⊎ ((eqb o.kind WRITES && (ltb 0 o.write && returned t s o)) ≡ true) → 1 ≤ o.end
       go (inl e) = finished o e
-      go (inr e) = absurd (omega (arith, eqb-true o.kind WRITES (and_left _ _ e)))
+      go (inr e) = absurd (omega (arith, eqb-true o.kind WRITES (first_so _ _ e)))
 
   -- a write whose entry a completed read returned stands
   write_stands : (o x : Tracked) → In o l → In x l → o.kind ≡ WRITES → 1 ≤ o.write → 1 ≤ x.end → x.kind ≡ READS → shows x ≡ shows o → stands t s o ≡ true
   unfolding stands
   write_stands o x i j k g h q e =
-      or_second (not (unfinished o)) _
-      (and_both _ _ (eq-eqb _ _ k) (and_both _ _ (lt-ltb _ _ g)
-      (passes_any (λ x. not (unfinished x) && (eqb x.kind READS && same (shows x) (shows o))) j (and_both _ _ (is_finished x h) (and_both _ _ (eq-eqb _ _ q) (is_same _ _ e))))))
+      or_right (not (unfinished o)) _
+      (and_from _ _ (eq-eqb _ _ k) (and_from _ _ (lt-ltb _ _ g)
+      (passes_any (λ x. not (unfinished x) && (eqb x.kind READS && same (shows x) (shows o))) j (and_from _ _ (is_finished x h) (and_from _ _ (eq-eqb _ _ q) (is_same _ _ e))))))
 
   asks : Asks key op empty order
   asks =
@@ -296,23 +300,23 @@ module _ {w : World} {place : ℕ} {l : List Tracked} (t : Trusted w) (s : Story
       go d (inl e) z = completed (rw (op_end o) (finished o e))
       go d (inr e) (no z) = completed (rw (op_end o) (omega arith))
       go d (inr e) (yes z) =
-          let r = any_passes (λ x. not (unfinished x) && (eqb x.kind READS && same (shows x) (shows o))) l (and_right (ltb 0 o.write) _ (and_right (eqb o.kind WRITES) _ e)) in
+          let r = any_passes (λ x. not (unfinished x) && (eqb x.kind READS && same (shows x) (shows o))) l (second_so (ltb 0 o.write) _ (second_so (eqb o.kind WRITES) _ e)) in
           let x = r.of in
-          let f = finished x (and_left _ _ r.has) in
-          let k = and_right (not (unfinished x)) _ r.has in
-          surfaced (op_kind o ∙ eqb-true _ _ (and_left _ _ e)) (op_end o ∙ z)
+          let f = finished x (first_so _ _ r.has) in
+          let k = second_so (not (unfinished x)) _ r.has in
+          surfaced (op_kind o ∙ eqb-true _ _ (first_so _ _ e)) (op_end o ∙ z)
           (record {
             by = op x;
             held = map_in op l r.member;
-            read = op_kind x ∙ eqb-true _ _ (and_left _ _ k);
+            read = op_kind x ∙ eqb-true _ _ (first_so _ _ k);
             completed = rw (op_end x) f;
-            same = op_entry x ∙ entry_done s x f ∙ ap Some (same_is _ _ (and_right (eqb x.kind READS) _ k)) ∙ sym (entry_of_lem i) ∙ sym (op_entry o);
+            same = op_entry x ∙ entry_done s x f ∙ ap Some (same_is _ _ (second_so (eqb x.kind READS) _ k)) ∙ sym (entry_of_lem i) ∙ sym (op_entry o);
           })
 
   -- in the history, and standing, so in the order
   done_stands : (o : Tracked) → 1 ≤ o.end → stands t s o ≡ true
   unfolding stands
-  done_stands o h = or_first _ _ (is_finished o h)
+  done_stands o h = or_left _ _ (is_finished o h)
 
   entry_none : (o : Tracked) → o.end ≡ 0 → o.write ≡ 0 → operation_entry w o ≡ None
   unfolding operation_entry
@@ -326,9 +330,6 @@ module _ {w : World} {place : ℕ} {l : List Tracked} (t : Trusted w) (s : Story
   in_order o i (completed e) = stand_in i (done_stands o (rw (op_end o) at e))
   in_order o i (surfaced k e r) = let m = in_map op l r.held in go m.of m.member m.is (ℕ_discrete o.write 0)
     where
-      some_is : {a b : Entry} → Some a ≡ Some b → a ≡ b
-      some_is q = cc
-
       go : (x : Tracked) → In x l → op x ≡ r.by → Dec (o.write ≡ 0) → In o order
       go x j q d = at d
         where
@@ -346,7 +347,7 @@ module _ {w : World} {place : ℕ} {l : List Tracked} (t : Trusted w) (s : Story
           at (no z) =
               let p : 1 ≤ o.write = omega arith in
               let c = sym (op_kind o) ∙ k in
-              stand_in i (write_stands o x i j c p f (sym (op_kind x) ∙ ap (λ (y : Operation). y.kind) q ∙ r.read) (some_is (shown ∙ entry_open s o (sym (op_end o) ∙ e) c p)))
+              stand_in i (write_stands o x i j c p f (sym (op_kind x) ∙ ap (λ (y : Operation). y.kind) q ∙ r.read) (same_Some _ _ (shown ∙ entry_open s o (sym (op_end o) ∙ e) c p)))
 
   members : (x : Operation) → In x (map op order) ↔ (In x h × Stands h x)
   members x = (there, back)
@@ -420,18 +421,12 @@ module _ {w : World} {place : ℕ} {l : List Tracked} (t : Trusted w) (s : Story
 
   -- the entries of elements that stand for operations with one entry
   one_entry : (a b : Tracked) → In a order → In b order → (op a).entry ≡ (op b).entry → shows a ≡ shows b
-  one_entry a b i j e = some_is (sym (entry_of_lem i) ∙ sym (op_entry a) ∙ e ∙ op_entry b ∙ entry_of_lem j)
-    where
-      some_is : {a b : Entry} → Some a ≡ Some b → a ≡ b
-      some_is q = cc
+  one_entry a b i j e = same_Some _ _ (sym (entry_of_lem i) ∙ sym (op_entry a) ∙ e ∙ op_entry b ∙ entry_of_lem j)
 
   equal_iff : (x y : Operation) → x.kind ≡ READS → y.kind ≡ READS → Before x y (map op order) → (x.entry ≡ y.entry) ↔ (Between (map op order) x y → ⊥)
   equal_iff x y p q b =
       (apart, λ n. equal_reads (Some empty) (map op order) x y (legal key op empty order sorted asks) p q b (λ z k f g. n (record { by = z; write = k; after = f; before = g })))
     where
-      entry_at_lem : {a b : Operation} → a ≡ b → a.entry ≡ b.entry
-      entry_at_lem e = ap (λ (o : Operation). o.entry) e
-
       apart : x.entry ≡ y.entry → Between (map op order) x y → ⊥
       apart e z =
           let c = pair op order sorted z.after in

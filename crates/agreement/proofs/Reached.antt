@@ -2,12 +2,13 @@
 use Rattle.std.specs.Prelude.{ℕ, suc, ◌+◌, ◌≤◌, Bool, true, false, ◌||◌, ◌≡◌, refl, ◌⊎◌, List, [], ◌∷◌, eqb}
 use Rattle.std.proofs.Common.{arith, subst, inl, inr, eqb-true}
 use Rattle.std.proofs.Math.Path.{ap}
+use Rattle.std.proofs.lemmas.Bool.{or_cases}
 use Rattle.protocol.specs.declared.View.{View}
 use Rattle.protocol.specs.declared.Server.{Server}
 use Rattle.protocol.specs.declared.Client.{Client}
 use Rattle.protocol.specs.declared.Message.{Message}
 use Rattle.protocol.specs.declared.Step.{Step}
-use Rattle.protocol.specs.Tools.{if, holds, bit_of, Result, refused, done, passed}
+use Rattle.protocol.specs.Tools.{if, holds, bit_of, Result, refused, done, passed, same_done}
 use Rattle.protocol.specs.Sizes.{messages, sized, view_with}
 use Rattle.protocol.specs.Entries.{empty}
 use Rattle.protocol.specs.Clients.{WRITES, READS, is_idle}
@@ -15,14 +16,14 @@ use Rattle.protocol.specs.Worlds.{World, no_message, server, member, fresh_world
 use Rattle.protocol.specs.Steps.{After}
 use Rattle.protocol.specs.Consistent.{In, here, there}
 use Rattle.protocol.specs.Runs.{step_of, step_bytes, Tracked, started, Run, noted, run, run_from}
-use Rattle.protocol.proofs.Laws.Tests.{clash, or_cases}
+use Rattle.protocol.proofs.Laws.Tests.{clash}
 use Rattle.protocol.proofs.Laws.Fresh.{First, member_of_lem, outside, first, used_none, views_count, servers_count, clients_count, messages_count, fresh_newest, fresh_view, fresh_settled, fresh_client, fresh_message}
 use Rattle.protocol.proofs.Laws.Bits.{holds_bit_of, holds_none}
 use Rattle.protocol.proofs.Laws.Worlds.{content, sent}
 use Rattle.protocol.proofs.Laws.Sound.{Mail, Sized, Sound, nowhere}
 use Rattle.protocol.proofs.Laws.Turns.{starter, step_lawful, step_starter}
+use Rattle.protocol.proofs.Laws.Lists.{no_member}
 use Rattle.agreement.specs.Lists.{empty as nobody, next}
-use Rattle.agreement.proofs.Lists.{no_member}
 use Rattle.agreement.specs.Invariants.{Keyed, Based, early, Origin, blank, Inv}
 use Rattle.agreement.proofs.Invariants.{inv_on}
 use Rattle.agreement.specs.Operations.{Story}
@@ -202,10 +203,7 @@ pub reached : (bits f r : ℕ) (w : World) → fresh bits f r ≡ done w → (bs
 unfolding fresh run_from
 reached bits f r w e bs =
     let (z, d) = passed _ _ _ _ e in
-    run_reached _ bs (subst (λ (x : World). Reached (record { world = x; place = 1; operations = [] })) (is_done d) (from_fresh (view_with bits f r) z))
+    run_reached _ bs (subst (λ (x : World). Reached (record { world = x; place = 1; operations = [] })) (same_done d) (from_fresh (view_with bits f r) z))
   where
-    is_done : {x y : World} → done x ≡ done y → x ≡ y
-    is_done e = cc
-
     from_fresh : (v : View) → sized v ≡ true → Reached (record { world = fresh_world v; place = 1; operations = [] })
     from_fresh v z = record { sound = fresh_sound v z; inv = fresh_inv v z; place = omega arith; story = fresh_story v z }

@@ -7,8 +7,8 @@ use mathlib.Core.List.{List, [], ◌∷◌}
 use Rattle.protocol.specs.Tools.{if}
 use Rattle.protocol.specs.Consistent.{In, here, there}
 use Rattle.protocol.proofs.Laws.Tests.{clash}
+use Rattle.protocol.proofs.Laws.Lists.{no_member}
 use Rattle.agreement.specs.Lists.{Rising, empty, next}
-use Rattle.agreement.proofs.Lists.{no_member}
 
 -- the members of a list that pass a test
 unfoldable pub filter : {A : Type 0} → (A → Bool) → List A → List A

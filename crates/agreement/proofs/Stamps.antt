@@ -5,6 +5,7 @@ use Rattle.std.specs.Prelude.{ℕ, ◌≤◌, Bool, true, false, ◌≡◌, List
 use Rattle.std.proofs.Math.Decide.{ℕ_discrete}
 use Rattle.std.proofs.Common.{arith, ◌∙◌}
 use Rattle.std.proofs.Math.Path.{refl, sym, ap}
+use Rattle.std.proofs.lemmas.Option.{same_Some}
 use borrow.Author.Tests.{ltb-true, eq-eqb, ne_eqb, lt-ltb}
 use Rattle.protocol.specs.declared.Entry.{Entry}
 use Rattle.protocol.specs.Tools.{done}
@@ -14,7 +15,8 @@ use Rattle.protocol.specs.Worlds.{World, fresh}
 use Rattle.protocol.specs.Consistent.{Operation, In}
 use Rattle.protocol.specs.Runs.{Tracked, operation_entry, operation, run_from, history}
 use Rattle.protocol.proofs.Laws.Worlds.{content, sent}
-use Rattle.agreement.proofs.Lists.{in_map, Related, before, after, equal, related}
+use Rattle.protocol.proofs.Laws.Lists.{in_map}
+use Rattle.agreement.proofs.Lists.{Related, before, after, equal, related}
 use Rattle.agreement.specs.Operations.{shows, Own, Earlier, Story}
 use Rattle.agreement.proofs.Operations.{shows_sent}
 use Rattle.agreement.specs.Precedence.{Level}
@@ -54,9 +56,6 @@ module _ {w : World} {place : ℕ} {l : List Tracked} (s : Story w place l) wher
   unfolding operation_entry
   entry_sent o i k {e} q = go (ℕ_discrete o.end 0)
     where
-      is_some : {x y : Entry} → Some x ≡ Some y → x ≡ y
-      is_some e = cc
-
       nothing : {A : Type 0} {x : Entry} → None ≡ Some x → A
       nothing e = let z : ◌≡◌ {A = ℕ} 0 1 = cc in absurd (omega arith)
 
@@ -65,11 +64,11 @@ module _ {w : World} {place : ℕ} {l : List Tracked} (s : Story w place l) wher
       sends z false r = nothing (sym (rw (eq-eqb o.end 0 z, eq-eqb o.kind WRITES k, r) refl) ∙ q)
 
       go : Dec (o.end ≡ 0) → Own o × ((sent w o.write).entry ≡ e)
-      go (yes z) = let g = sends z (ltb 0 o.write) refl in (record { write = k; sent = g }, sym (shows_sent (s.fits o i) g) ∙ is_some (sym (entry_open o z k g) ∙ q))
+      go (yes z) = let g = sends z (ltb 0 o.write) refl in (record { write = k; sent = g }, sym (shows_sent (s.fits o i) g) ∙ same_Some _ _ (sym (entry_open o z k g) ∙ q))
       go (no z) =
           let h : 1 ≤ o.end = omega arith in
           let u = write_sent o i k h in
-          (u, sym (shows_sent (s.fits o i) u.sent) ∙ is_some (sym (entry_done o h) ∙ q))
+          (u, sym (shows_sent (s.fits o i) u.sent) ∙ same_Some _ _ (sym (entry_done o h) ∙ q))
 
   -- two write operations of the history with one stamp are one
   pub stamped_once : (x y : Operation) → In x (map (operation w) l) → In y (map (operation w) l) → x.kind ≡ WRITES → y.kind ≡ WRITES

@@ -19,8 +19,9 @@ use Rattle.protocol.specs.Runs.{Tracked, sent_write, tracked}
 use Rattle.protocol.proofs.Laws.Tests.{by_test, clash, last_or}
 use Rattle.protocol.proofs.Laws.Worlds.{sent}
 use Rattle.protocol.proofs.Laws.Change.{Acted, same, began, wrote, ended, exchanged, gave_up, Writer, Posted, none, one, Change, Moved}
+use Rattle.protocol.proofs.Laws.Lists.{in_map, map_in}
 use Rattle.agreement.specs.Lists.{Rising}
-use Rattle.agreement.proofs.Lists.{in_map, map_in, in_append, in_left, in_right, rising_append, rising_map}
+use Rattle.agreement.proofs.Lists.{in_append, in_left, in_right, rising_append, rising_map}
 use Rattle.agreement.specs.Invariants.{Inv}
 use Rattle.agreement.proofs.Invariants.{grown}
 use Rattle.agreement.specs.Carried.{Held}

@@ -2,7 +2,7 @@
 use Rattle.std.specs.Prelude.{ℕ, Bool, true, false, ◌&&◌, ◌≡◌, refl, List, [], ◌∷◌, length, eqb, Option, None, Some, MatchOption, Result as Outcome, Ok, Err, zero, suc}
 use Rattle.std.proofs.Common.{sym, ap, ap₂, subst, ◌∙◌, arith, eq-eqb, ne_eqb}
 use Rattle.protocol.specs.declared.Step.{Step}
-use Rattle.protocol.specs.Tools.{if, within, Result, refused, done, guard}
+use Rattle.protocol.specs.Tools.{if, within, Result, refused, done, guard, same_done}
 use Rattle.protocol.specs.Sizes.{clients}
 use Rattle.protocol.specs.Steps.{After, step}
 use Rattle.protocol.specs.Runs.{step_width, step_of}
@@ -62,11 +62,8 @@ told_line l (suc k) = refl
 -- what a step answers is its line: a refusal, or the client whose operation it completed
 answer_line : (r : Stepped) (x : Result After) (l l' : List ℕ) → Does r l l' x → outcome_by (line_told l') r ≡ lined x
 answer_line (Ok c) (done a) l l' d =
-    let e : c ≡ some_of a.completed = same d.answer in
+    let e : c ≡ some_of a.completed = same_done d.answer in
     ap done (ap₂ line_told d.image e ∙ told_line (encode a.world) a.completed)
-  where
-    same : {x y : Option ℕ} → done x ≡ done y → x ≡ y
-    same e = cc
 answer_line (Err n) (refused m) l l' d = let e : refusal_number n ≡ m = same d.answer in ap refused e
   where
     same : {x y : ℕ} → ◌≡◌ {A = Result (Option ℕ)} (refused x) (refused y) → x ≡ y

@@ -8,7 +8,8 @@ use Rattle.std.specs.List.{list_all}
 use Rattle.std.proofs.lemmas.List.{get_or-replicate}
 use Rattle.std.proofs.lemmas.List.Folds.{list_all_more}
 use Rattle.std.proofs.Math.ListN.{get_or-eq_default}
-use Rattle.protocol.proofs.Laws.Tests.{and_left, and_right, and_both}
+use Rattle.std.specs.Cmp.{first_so, second_so}
+use Rattle.std.proofs.lemmas.Bool.{and_from}
 use Rattle.protocol.specs.Runs.{u16_width, u32_width, u16_at, u32_at}
 use Rattle.codec.specs.Lists.{part, part_one, part_add, get_d_part}
 
@@ -133,10 +134,10 @@ zeros_part b at zero h z = refl
 zeros_part b at (suc n) h z =
     let e : part b at (n + 1) ≡ replicate n 0 ++ (0 ∷ [])
     = part_add b at n 1 ∙ rw (
-      sym (zeros_part b at n (omega arith) (and_left (zeros b at n) (clear b (at + n)) z)),
+      sym (zeros_part b at n (omega arith) (first_so (zeros b at n) (clear b (at + n)) z)),
       part_one b (at + n) (omega arith),
       eqb-true (get_or b (at + n) 0) 0
-          (and_right (zeros b at n) (clear b (at + n)) z),
+          (second_so (zeros b at n) (clear b (at + n)) z),
     ) in
     sym (ap (part b at) (sym (add-one n)) ∙ e ∙ replicate_more n)
 
@@ -146,4 +147,4 @@ zeros_back b at n e = go n (λ i h. sym (get_d_part b at n i h) ∙ ap (λ (l : 
   where
     go : (k : ℕ) → ((i : ℕ) → i < k → get_or b (at + i) 0 ≡ 0) → zeros b at k ≡ true
     go zero f = refl
-    go (suc k) f = and_both _ _ (go k (λ i h. f i (omega arith))) (eq-eqb (get_or b (at + k) 0) 0 (f k (omega arith)))
+    go (suc k) f = and_from _ _ (go k (λ i h. f i (omega arith))) (eq-eqb (get_or b (at + k) 0) 0 (f k (omega arith)))

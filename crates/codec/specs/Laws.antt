@@ -15,8 +15,10 @@ use Rattle.protocol.specs.declared.Message.{Message}
 use Rattle.protocol.specs.Tools.{nth, replace}
 use Rattle.protocol.specs.Sizes.{clients, servers, views, messages}
 use Rattle.protocol.specs.Worlds.{World, view, server, client, message, bad, with_view, with_server, with_client, with_message, with_administrator, send, list_to, no_view, no_server, no_client, no_message}
+use Rattle.protocol.proofs.Laws.Lists.{length_list_to}
+use Rattle.protocol.proofs.Laws.Worlds.{length_replace}
 use Rattle.codec.specs.Layout.{image_size, header_width, views_at, holders_at, servers_at, clients_at, messages_at, view_place, holder_place, server_place, client_place, message_place, view_width, holder_width, server_width, client_width, message_width}
-use Rattle.codec.specs.Lists.{part, put, flat, get_d_part, length_flat, part_group, put_group, part_number, put_number, length_replace, length_list_to, nth_list_to, list_to_nth, get_d_cons}
+use Rattle.codec.specs.Lists.{part, put, flat, get_d_part, length_flat, part_group, put_group, part_number, put_number, nth_list_to, list_to_nth, get_d_cons}
 use Rattle.codec.specs.Bytes.{half_le16}
 use Rattle.codec.specs.Records.{header_bytes, view_bytes, holder_bytes, server_bytes, client_bytes, message_bytes, administrator_bytes, view_of, server_of, client_of, message_of, length_header_bytes, length_view_bytes, length_holder_bytes, length_server_bytes, length_client_bytes, length_message_bytes, view_of_bytes, server_of_bytes, client_of_bytes, message_of_bytes, administrator_of_bytes, ViewFits, ServerFits, ClientFits, MessageFits, AdministratorFits}
 use Rattle.codec.specs.Places.{used_at, put_used, administrator_at, put_administrator, view_at, put_view, holder_at, put_holder, server_at, put_server, client_at, put_client, message_at, put_message}

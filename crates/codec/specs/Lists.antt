@@ -1,7 +1,7 @@
 -- A part of a list, a list with a part replaced, and records of one width one after another. Assumes nothing.
 use Rattle.std.specs.Prelude.{◌≡◌, refl, take, drop, get_or, set, replicate}
 use Rattle.std.proofs.Math.Path.{sym, ap}
-use Rattle.std.proofs.Common.{◌∙◌, not-suc-le-zero, le_of_suc-le-suc, mul_comm, add-zero, zero-add, add_assoc, arith, length-set, length-append, length-take, length-drop, take-append-drop, take_at, drop_at, drop-drop, take-add, take-take, take_all, drop-cons, get_or-take, get_or-drop}
+use Rattle.std.proofs.Common.{◌∙◌, not-suc-le-zero, le_of_suc-le-suc, mul_comm, add-zero, zero-add, add_assoc, arith, length-append, length-take, length-drop, take-append-drop, take_at, drop_at, drop-drop, take-add, take-take, take_all, drop-cons, get_or-take, get_or-drop}
 use mathlib.Core.List.{List, [], ◌∷◌, ◌++◌, append_assoc, append-nil}
 use Prim.Native.Nat.{ℕ, zero, suc, ◌+◌, ◌*◌, ◌-◌, ◌≤◌, ◌<◌}
 use Rattle.std.proofs.Math.Nat.{add-sub_cancel_left, zero-mul, suc-mul}
@@ -99,6 +99,7 @@ put_more l at k vs us h e = rw e (put_put l at vs us h)
 
 -- ---- what a part that was lent is, and a copy into it
 
+-- No proof cites it; it stands for who reads the definitions.
 pub span : (l : List ℕ) (at n : ℕ) → take (at + n - at) (drop at l) ≡ part l at n
 unfolding part
 span l at n = ap (λ (k : ℕ). take k (drop at l)) (add-sub_cancel_left at n)
@@ -224,22 +225,11 @@ module _ {A : Type 0} (f : A → List ℕ) (w : ℕ) (wide : (x : A) → length 
   put_number p xs q at zero v e l h = absurd (not-suc-le-zero l)
   put_number p xs q at (suc k) v e l h = rw (pred_suc k) (put_group f w wide p xs q at k v e h)
 
-pub length_replace : {A : Type 0} (xs : List A) (k : ℕ) (v : A) → length (replace xs k v) ≡ length xs
-unfolding replace
-length_replace xs zero v = refl
-length_replace xs (suc k) v = length-set xs k v
-
 -- a list that is numbered from 1 behind an element number 0
 pub get_d_cons : {A : Type 0} (x : A) (xs : List A) (k : ℕ) (d : A) → 1 ≤ k → get_or (x ∷ xs) k d ≡ nth xs k d
 unfolding nth
 get_d_cons x xs zero d l = absurd (not-suc-le-zero l)
 get_d_cons x xs (suc k) d l = refl
-
--- the list of g 1 to g n
-pub length_list_to : {A : Type 0} (g : ℕ → A) (n : ℕ) → length (list_to g n) ≡ n
-unfolding list_to
-length_list_to g zero = refl
-length_list_to g (suc n) = ap suc (length_list_to (λ i. g (suc i)) n)
 
 pub nth_list_to : {A : Type 0} (g : ℕ → A) (n k : ℕ) (d : A) → 1 ≤ k → k ≤ n → nth (list_to g n) k d ≡ g k
 unfolding nth list_to

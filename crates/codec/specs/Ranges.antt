@@ -1,6 +1,5 @@
 -- The numbers 1 to n as a range gives them, and what chains over them answer by the words of the rules: `all_up_to` of
--- `(1..=n).all(..)`, `count_up_to` of `(1..=n).filter(..).count()`; of `1..n + 1`, which is compiled
--- to faster code, `all_below` and `count_below`. Used by the tests of an image. Assumes nothing.
+-- `(1..=n).all(..)`; of `1..n + 1`, which is compiled to faster code, `all_below` and `count_below`. Used by the tests of an image. Assumes nothing.
 use Rattle.std.specs.Prelude.{Option}
 use Rattle.std.specs.declared.ops.Range.{Range}
 use Rattle.std.specs.declared.ops.RangeInclusive.{RangeInclusive}
@@ -26,6 +25,7 @@ use Rattle.std.proofs.lemmas.Iterator.Search.{all_from_yields_List}
 use Rattle.std.proofs.lemmas.Iterator.Consumers.{YieldsList-from_filter, count_from_yields_List}
 use Rattle.std.proofs.lemmas.List.Folds.{list_all-append}
 use Rattle.std.proofs.lemmas.List.Sums.{length-filter}
+use Rattle.std.proofs.Math.Bool.{and-true}
 use Rattle.protocol.specs.Tools.{bit, all_to, count_to}
 
 -- ---- the list of them
@@ -39,10 +39,6 @@ last (suc n) a =
 up_to : (n : ℕ) → range_with_len 1 (suc n) ≡ range_with_len 1 n ++ suc n ∷ []
 up_to n = let e : 1 + n ≡ suc n = omega arith in last n 1 ∙ ap (λ (x : ℕ). range_with_len 1 n ++ x ∷ []) e
 
-and_true : (b : Bool) → b && true ≡ b
-and_true true = refl
-and_true false = refl
-
 counted : (m : ℕ) (b : Bool) → m + cond b 1 0 ≡ m + bit b
 counted m true = refl
 counted m false = refl
@@ -54,7 +50,7 @@ module _ (p : ℕ → Bool) where
   all_range (suc n) =
       ap (list_all p) (up_to n) ∙ list_all-append p (range_with_len 1 n) (suc n ∷ [])
       ∙ ap (λ (b : Bool). b && (p (suc n) && true)) (all_range n)
-      ∙ ap (λ (b : Bool). all_to p n && b) (and_true (p (suc n)))
+      ∙ ap (λ (b : Bool). all_to p n && b) (and-true (p (suc n)))
 
   count_range : (n : ℕ) → count_by p (range_with_len 1 n) ≡ count_to p n
   unfolding count_to
@@ -113,14 +109,6 @@ pub all_up_to : {F : Type 0} {g : Mut F (ℕ × Unit {0}) Bool} {s : RangeInclus
     → ((x : ℕ) (b : Bool) (q : F) → Called g f (x, tt) b q → (q ≡ f) × (b ≡ p x))
     → r ≡ all_to p n
 all_up_to p n u f r s ran h = all_from_yields_List p u f r ran (yields n s) h ∙ all_range p n
-
-pub count_up_to : {F : Type 0} {g : Mut F (Bor ℕ × Unit {0}) Bool} (p : ℕ → Bool) (n : ℕ) (s : _) (f : F) (r : ℕ)
-    → {t : RangeInclusive ℕ} → UpTo t n → filter_source s ≡ t → filter_callee s ≡ f
-    → ((xs : List ℕ) × Drains (filter_steps nat_range_inclusive_steps g) s xs × (r ≡ length xs))
-    → ((x : ℕ) (b : Bool) (q : F) → CalledAt g f x b q → (q ≡ f) × (b ≡ p x))
-    → r ≡ count_to p n
-count_up_to {g = g} p n s f r u e c ran h =
-    count_from_yields_List s r ran (YieldsList-from_filter g p (yields n (subst (λ t. UpTo t n) (sym e) u)) c h) ∙ length-filter p (range_with_len 1 n) ∙ count_range p n
 
 -- ---- the same over `1..n + 1`, which is compiled to a plainer loop: `1..=n` asks in each turn whether its last number has come
 

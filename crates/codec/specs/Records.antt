@@ -1,8 +1,9 @@
 -- Each record as bytes: what it reads as (`..Of`), what it is written as (`..Bytes`), and whether its spare bytes, flags and
 -- tags are those of its writing (`..Plain`). Record to bytes to record: `view_of_bytes`, `server_of_bytes` and so on, for records
 -- whose numbers fit (`ViewFits` ..); bytes to record to bytes is in Spelling. Used by the code of `records` and by Places.
-use Rattle.std.specs.Prelude.{◌≡◌, refl, Bool, true, false, not, ◌&&◌, ◌||◌, List, [], ◌∷◌, ◌++◌, ℕ, ◌<◌, ◌^◌, get_or, length, replicate, eqb, leb, None, Some}
-use Rattle.std.proofs.Common.{ap, sym}
+use Rattle.std.specs.Prelude.{◌≡◌, refl, Bool, true, false, not, ◌&&◌, ◌||◌, List, [], ◌∷◌, ◌++◌, ℕ, ◌<◌, ◌^◌, get_or, length, replicate, eqb, ltb, leb, None, Some}
+use Rattle.std.proofs.Common.{ap, sym, ltb-true}
+use Rattle.std.specs.Cmp.{first_so, second_so}
 use Rattle.protocol.specs.declared.Entry.{Entry}
 use Rattle.protocol.specs.declared.View.{View}
 use Rattle.protocol.specs.declared.Server.{Server}
@@ -13,7 +14,8 @@ use Rattle.protocol.specs.Types.{Ending}
 use Rattle.protocol.specs.declared.Administrator.{Administrator}
 use Rattle.protocol.specs.declared.Message.{Message}
 use Rattle.protocol.specs.Tools.{if, bit}
-use Rattle.protocol.specs.Entries.{entry, count_of, writer_of}
+use Rattle.protocol.specs.Sizes.{clients}
+use Rattle.protocol.specs.Entries.{entry, count_of, writer_of, entry_fits}
 use Rattle.protocol.specs.Clients.{number, request_of, end_of, is_ending}
 use Rattle.protocol.specs.Runs.{u16_at, u32_at}
 use Rattle.codec.specs.Layout.{version, version_place, administrator_place, administrator_width, header_spare_place, header_spare, header_width}
@@ -184,6 +186,12 @@ length_header_bytes n a = refl
 pub record EntryFits (e : Entry) : Type 0 where
   pub count : count_of e < 2 ^ 32
   pub value : e.value < 2 ^ 32
+
+pub entry_fits_lem : (e : Entry) → entry_fits e ≡ true → EntryFits e
+unfolding entry_fits
+entry_fits_lem e p =
+    let q = second_so (ltb (count_of e) (2 ^ 32)) _ p in
+    record { count = ltb-true (count_of e) (2 ^ 32) (first_so _ _ p); value = ltb-true e.value (2 ^ 32) (second_so (leb (writer_of e) clients) _ q) }
 
 pub record ViewFits (v : View) : Type 0 where
   pub members : v.members.0 < 2 ^ 32

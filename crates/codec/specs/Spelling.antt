@@ -2,11 +2,13 @@
 -- there (`plain_entry`, `plain_view` ..). Each record is spelled piece by piece, in the order of its places. Used by Whole.
 use Rattle.std.specs.Prelude.{◌≡◌, refl, Bool, true, false, not, ◌&&◌, ◌||◌, List, [], ◌∷◌, ℕ, zero, suc, ◌+◌, ◌*◌, ◌/◌, ◌%◌, ◌≤◌, ◌<◌, length, get_or, leb, eqb, None, Some}
 use Rattle.std.proofs.Common.{sym, ap, ◌∙◌, arith, eqb-true, leb-true, eq-eqb, le-leb}
+use Rattle.std.proofs.lemmas.Bool.{and_parts, and_from}
 use Rattle.protocol.specs.declared.Phase.{Phase}
 use Rattle.protocol.specs.declared.Phase.TheVariants.{Idle, Reading, Writing}
-use Rattle.protocol.specs.Tools.{bit, if, both, join}
+use Rattle.protocol.specs.Tools.{bit, if}
 use Rattle.protocol.specs.Clients.{number, request_of, end_of, is_ending}
 use Rattle.protocol.specs.Runs.{u16_at}
+use Rattle.protocol.proofs.Laws.Counts.{bit_le}
 use Rattle.codec.specs.Layout.{version, version_place, used_place, administrator_place, administrator_width, header_spare_place, header_spare, header_width}
 use Rattle.codec.specs.Layout.{count_place, writer_place, entry_spare_place, entry_spare, value_place, entry_rest_place, entry_rest, entry_width}
 use Rattle.codec.specs.Layout.{members_place, threshold_place, read_size_place, view_spare_place, view_spare, view_width, newest_place, ending_place, end_place}
@@ -20,10 +22,6 @@ use Rattle.codec.specs.Records.{phase_of, phase_tag, last_phase, client_of, clie
 use Rattle.codec.specs.Records.{ending_of, administrator_of, administrator_bytes, administrator_plain, header_bytes, header_plain}
 
 -- ---- flags and tags
-
-bit_le : (t : Bool) → bit t ≤ 1
-bit_le true = omega arith
-bit_le false = omega arith
 
 flag_of_lem : (n : ℕ) → leb n 1 ≡ true → bit (flag_of n) ≡ n
 flag_of_lem zero h = refl
@@ -91,7 +89,7 @@ of_part i n e = ap (λ (l : List ℕ). part l i n) e
 pub entry_plain_lem : (b : List ℕ) → length b ≡ entry_width → Bytes b → entry_plain b ≡ true → entry_bytes (entry_of b) ≡ b
 unfolding entry_plain entry_bytes entry_of
 entry_plain_lem b e y p =
-    let z = both (zeros b entry_spare_place entry_spare) (zeros b entry_rest_place entry_rest) p in
+    let z = and_parts (zeros b entry_spare_place entry_spare) (zeros b entry_rest_place entry_rest) p in
     spelled
     (spells _
     (spells _
@@ -104,7 +102,7 @@ entry_plain_lem b e y p =
 pub plain_entry : (b : List ℕ) → entry_bytes (entry_of b) ≡ b → entry_plain b ≡ true
 unfolding entry_plain entry_bytes entry_of part
 plain_entry b e =
-    join (zeros_back b entry_spare_place entry_spare (of_part entry_spare_place entry_spare e))
+    and_from _ _ (zeros_back b entry_spare_place entry_spare (of_part entry_spare_place entry_spare e))
     (zeros_back b entry_rest_place entry_rest (of_part entry_rest_place entry_rest e))
 
 -- the entry of a longer record
@@ -131,8 +129,8 @@ plain_view b e = zeros_back b view_spare_place view_spare (of_part view_spare_pl
 pub server_plain_lem : (b : List ℕ) → length b ≡ server_width → Bytes b → server_plain b ≡ true → server_bytes (server_of b) ≡ b
 unfolding server_plain server_bytes server_of
 server_plain_lem b e y p =
-    let f = both (leb (get_or b faulty_place 0) 1) (zeros b server_spare_place server_spare && entry_plain (part b server_entry_place entry_width)) p in
-    let z = both (zeros b server_spare_place server_spare) (entry_plain (part b server_entry_place entry_width)) f.1 in
+    let f = and_parts (leb (get_or b faulty_place 0) 1) (zeros b server_spare_place server_spare && entry_plain (part b server_entry_place entry_width)) p in
+    let z = and_parts (zeros b server_spare_place server_spare) (entry_plain (part b server_entry_place entry_width)) f.1 in
     spelled
     (spells _
     (spells _
@@ -147,8 +145,8 @@ server_plain_lem b e y p =
 pub plain_server : (b : List ℕ) → server_bytes (server_of b) ≡ b → server_plain b ≡ true
 unfolding server_plain server_bytes server_of entry_bytes part
 plain_server b e =
-    join (of_flag (get_or b faulty_place 0) (sym (at faulty_place e)))
-    (join (zeros_back b server_spare_place server_spare (of_part server_spare_place server_spare e))
+    and_from _ _ (of_flag (get_or b faulty_place 0) (sym (at faulty_place e)))
+    (and_from _ _ (zeros_back b server_spare_place server_spare (of_part server_spare_place server_spare e))
     (plain_entry (part b server_entry_place entry_width) (of_part server_entry_place entry_width e)))
 
 -- ---- client
@@ -158,8 +156,8 @@ unfolding client_plain client_bytes client_of phase_of
 client_plain_lem b e y p =
     let k : ℕ = u16_at b client_request_place in
     let n : ℕ = get_or b phase_place 0 in
-    let t = both (leb n last_phase) (untagged n k && entry_plain (part b client_entry_place entry_width)) p in
-    let r = both (untagged n k) (entry_plain (part b client_entry_place entry_width)) t.1 in
+    let t = and_parts (leb n last_phase) (untagged n k && entry_plain (part b client_entry_place entry_width)) p in
+    let r = and_parts (untagged n k) (entry_plain (part b client_entry_place entry_width)) t.1 in
     spelled
     (spells _
     (spells _
@@ -175,8 +173,8 @@ unfolding client_plain client_bytes client_of phase_of entry_bytes part
 plain_client b e =
     let k : ℕ = u16_at b client_request_place in
     let n : ℕ = get_or b phase_place 0 in
-    join (le-leb n last_phase (omega (arith, at phase_place e, tag_le (phase_of n k))))
-    (join (of_request (eqb n 0) (eqb n 1) k (get_or b client_request_place 0) (get_or b (client_request_place + 1) 0) refl (at client_request_place e) (at (client_request_place + 1) e))
+    and_from _ _ (le-leb n last_phase (omega (arith, at phase_place e, tag_le (phase_of n k))))
+    (and_from _ _ (of_request (eqb n 0) (eqb n 1) k (get_or b client_request_place 0) (get_or b (client_request_place + 1) 0) refl (at client_request_place e) (at (client_request_place + 1) e))
     (plain_entry (part b client_entry_place entry_width) (of_part client_entry_place entry_width e)))
 
 -- ---- message
@@ -184,7 +182,7 @@ plain_client b e =
 pub message_plain_lem : (b : List ℕ) → length b ≡ message_width → Bytes b → message_plain b ≡ true → message_bytes (message_of b) ≡ b
 unfolding message_plain message_bytes message_of
 message_plain_lem b e y p =
-    let f = both (leb (get_or b taken_place 0) 1) (entry_plain (part b message_entry_place entry_width)) p in
+    let f = and_parts (leb (get_or b taken_place 0) 1) (entry_plain (part b message_entry_place entry_width)) p in
     spelled
     (spells _
     (spells _
@@ -202,7 +200,7 @@ message_plain_lem b e y p =
 pub plain_message : (b : List ℕ) → message_bytes (message_of b) ≡ b → message_plain b ≡ true
 unfolding message_plain message_bytes message_of entry_bytes part
 plain_message b e =
-    join (of_flag (get_or b taken_place 0) (sym (at taken_place e)))
+    and_from _ _ (of_flag (get_or b taken_place 0) (sym (at taken_place e)))
     (plain_entry (part b message_entry_place entry_width) (of_part message_entry_place entry_width e))
 
 -- ---- administrator and header
@@ -212,7 +210,7 @@ unfolding administrator_plain administrator_bytes administrator_of ending_of
 administrator_plain_lem b e y p =
     let k : ℕ = u16_at b end_place in
     let n : ℕ = get_or b ending_place 0 in
-    let f = both (leb n 1) (untagged n k) p in
+    let f = and_parts (leb n 1) (untagged n k) p in
     spelled
     (spells _
     (spells _ (spells _ (spells_none b) (byte_part b newest_place (omega arith)))
@@ -225,7 +223,7 @@ unfolding administrator_plain administrator_bytes administrator_of ending_of
 plain_administrator b e =
     let k : ℕ = u16_at b end_place in
     let n : ℕ = get_or b ending_place 0 in
-    join (of_flag n (sym (at ending_place e ∙ ap bit (is_ending_lem (eqb n 0) k))))
+    and_from _ _ (of_flag n (sym (at ending_place e ∙ ap bit (is_ending_lem (eqb n 0) k))))
     (of_ending (eqb n 0) k (get_or b end_place 0) (get_or b (end_place + 1) 0) refl (at end_place e) (at (end_place + 1) e))
 
 -- the header's bytes of an image
@@ -235,8 +233,8 @@ header_of b = header_bytes (u16_at b used_place) (administrator_of (part b admin
 pub header_plain_lem : (b : List ℕ) → length b ≡ header_width → Bytes b → header_plain b ≡ true → header_of b ≡ b
 unfolding header_plain header_bytes
 header_plain_lem b e y p =
-    let v = both (eqb (u16_at b version_place) version) (administrator_plain (part b administrator_place administrator_width) && zeros b header_spare_place header_spare) p in
-    let z = both (administrator_plain (part b administrator_place administrator_width)) (zeros b header_spare_place header_spare) v.1 in
+    let v = and_parts (eqb (u16_at b version_place) version) (administrator_plain (part b administrator_place administrator_width) && zeros b header_spare_place header_spare) p in
+    let z = and_parts (administrator_plain (part b administrator_place administrator_width)) (zeros b header_spare_place header_spare) v.1 in
     spelled
     (spells _
     (spells _
@@ -250,6 +248,6 @@ header_plain_lem b e y p =
 pub plain_header : (b : List ℕ) → header_of b ≡ b → header_plain b ≡ true
 unfolding header_plain header_bytes administrator_bytes part
 plain_header b e =
-    join (eq-eqb (u16_at b version_place) version (omega (arith, at version_place e, at (version_place + 1) e)))
-    (join (plain_administrator (part b administrator_place administrator_width) (of_part administrator_place administrator_width e))
+    and_from _ _ (eq-eqb (u16_at b version_place) version (omega (arith, at version_place e, at (version_place + 1) e)))
+    (and_from _ _ (plain_administrator (part b administrator_place administrator_width) (of_part administrator_place administrator_width e))
     (zeros_back b header_spare_place header_spare (of_part header_spare_place header_spare e)))

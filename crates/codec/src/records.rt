@@ -1,5 +1,7 @@
 // Each record as bytes: read, written from a place on, and the test of its spare bytes, flags and tags. Writers take the buffer
 // with a place: to lend a part out would need clauses on how it comes back.
+// A function for each record: a trait over the names that six crates use would be longer. Tags of a phase and of an ending are
+// bytes of the format, made and read here alone.
 ghost use Rattle.std.specs.Prelude.{◌≡◌, ◌+◌, ◌≤◌, length};
 ghost use Rattle.codec.specs.Layout.{entry_width, view_width, server_width, client_width, message_width, administrator_width};
 ghost use Rattle.protocol.specs.Runs.{step_of};

@@ -1,9 +1,9 @@
 -- Demand 3 on the bytes (specs/Theorem.antt), for runs and for journals: `linearizable_images` and `linearizable_journals`.
 -- `never_again`: no run gives a stamp twice, whatever is faulty. `run_reported` says that the premise report on which they rest is an
 -- answer and no refusal. Assumes nothing.
-use Rattle.std.specs.Prelude.{ℕ, Bool, true, ◌≡◌, refl, List, Some}
+use Rattle.std.specs.Prelude.{ℕ, true, ◌≡◌, refl, List, Some}
 use Rattle.std.proofs.Common.{sym, ap, subst, ◌∙◌, eq-eqb}
-use Rattle.protocol.specs.Tools.{done, guard, passed}
+use Rattle.protocol.specs.Tools.{done, guard, passed, same_done}
 use Rattle.protocol.specs.Worlds.{World, premise}
 use Rattle.protocol.specs.declared.Entry.{Entry}
 use Rattle.protocol.specs.Entries.{count_of, writer_of}
@@ -29,10 +29,7 @@ unfolding premise_on
 report_holds {i} {w} h e =
     let (p, e1) = passed _ _ _ _ e in
     let (q, e2) = passed _ _ _ _ e1 in
-    ap premise (sym (spells_decode h)) ∙ is_done e2
-  where
-    is_done : {x y : Bool} → done x ≡ done y → x ≡ y
-    is_done e = cc
+    ap premise (sym (spells_decode h)) ∙ same_done e2
 
 -- the premise report of a run's image is no refusal: it says whether the premise holds in its world
 pub run_reported : (buffer : List ℕ) (members f r : ℕ) → (fresh_on buffer members f r).refusal ≡ 0 → (steps : List (List ℕ))

@@ -15,7 +15,7 @@ use Rattle.protocol.specs.declared.Shown.{Shown}
 use Rattle.protocol.specs.declared.refusals.Refusal.{Refusal}
 use Rattle.protocol.specs.declared.refusals.Refusal.TheVariants.{NoMessage, FaultState}
 use Rattle.protocol.specs.Refusals.{outcome, code, refusal_number, refusal_some}
-use Rattle.protocol.specs.Tools.{if, bit, within, holds, bit_of, nth, Result, refused, done, guard, then, number_of, passed}
+use Rattle.protocol.specs.Tools.{if, bit, within, holds, bit_of, nth, Result, refused, done, guard, then, number_of, passed, same_done}
 use Rattle.protocol.specs.Sizes.{servers, views, messages}
 use Rattle.protocol.specs.Entries.{empty}
 use Rattle.protocol.specs.declared.Reply.{Reply}
@@ -24,13 +24,13 @@ use Rattle.protocol.specs.Worlds.{World, view, server, message, newest, member, 
 use Rattle.protocol.specs.Steps.{After, answer, answers, deliver, fault, source?, lie}
 use Rattle.protocol.proofs.Laws.Tests.{within_true, by_test, clash}
 use Rattle.protocol.proofs.Laws.Bits.{holds_none, holds_or, holds_bit_of}
+use Rattle.protocol.proofs.Laws.Moves.{present_is}
 use Rattle.values.specs.Bits.{bit_in, bit_in_lem}
 use Rattle.readable.specs.Tests.{if_true, if_false}
 use Rattle.key_holders.specs.Counts.{bit_or_lem}
 use Rattle.codec.specs.Places.{used_at, server_at, message_at, put_server}
 use Rattle.codec.specs.Images.{encode, decode}
 use Rattle.server_rules.specs.Servers.{serve_in, serve_in_lem, entering, replying, accepting, serve_done}
-use Rattle.preservation.proofs.Updates.{present_is}
 use Rattle.preservation.proofs.Kept.{mailed}
 use Rattle.mail.specs.Images.{Legible, Does, put_sent, number_left}
 use Rattle.mail.specs.Stored.{refuses, does, whole, used_is, server_is, message_is, image_of, with_sent, room_yes, room_no, numbered, unnumbered}
@@ -221,10 +221,7 @@ module _ {l : List ℕ} (h : Legible l) where
       serve_is = sym in_views ∙ sym f ∙ ap outcome d
 
       accepted : r ≡ accepting x m
-      accepted = same (sym (ap outcome d) ∙ f ∙ serve_done x m t (ap number_of (sym f ∙ ap outcome d)))
-        where
-          same : {y z : Reply} → done y ≡ done z → y ≡ z
-          same g = cc
+      accepted = same_done (sym (ap outcome d) ∙ f ∙ serve_done x m t (ap number_of (sym f ∙ ap outcome d)))
 
       is_server : server w s ≡ x
       is_server = sym (q ∙ server_is h s a b)

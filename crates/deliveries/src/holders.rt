@@ -1,6 +1,8 @@
 // The bytes that count the faulty key holders of each view, kept along with the servers' records.
 // That the image is readable is asked, not held by a struct: behind `&mut` its field would have to be proved again at each
 // return, and for a reader it would be made for one call.
+// A number in range stays a number: a type for it would be made and taken apart at each call, with the same goal.
+// What is gone over are numbers, as the definitions have it.
 ghost use Rattle.std.specs.Prelude.{◌≡◌, ◌≤◌};
 ghost use Rattle.protocol.specs.Sizes.{servers, views};
 ghost use Rattle.codec.specs.Places.{put_server};

@@ -23,7 +23,7 @@ fn fits(used: bool, range: Range, x: u32) -> bool
 fn restart_fits(st: Step) -> bool
     ensures { result ≡ restart_fits st }
 {
-    st.kind != u8::from(StepKind::Restart) || st.value != 0 || st.f == 0 && st.who == 0
+    !st.is(StepKind::Restart) || st.value != 0 || st.f == 0 && st.who == 0
 }
 
 #[tactic(auto, using(crate::proofs::Known::known), unfolding(protocol::specs::Steps::fields_fit))]

@@ -5,7 +5,7 @@ ghost use Rattle.protocol.specs.Steps.{row_of, in_row, who_named, who_used, who_
 use protocol::Range;
 use protocol::limits::{CLIENTS, MESSAGES, SERVERS, VIEWS};
 
-// A flag for each field that a step may use; who is a client, a server or a read size.
+// A flag for each field that a step may use; who is a client, a server or a read size. Flags are bits: a row is their sum.
 pub const CLIENT: u8 = 1;
 
 pub const SERVER: u8 = 2;

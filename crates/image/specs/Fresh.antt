@@ -10,9 +10,10 @@ use Rattle.protocol.specs.Tools.{if, holds, nth, replace, Result, refused, done,
 use Rattle.protocol.specs.Sizes.{clients, servers, views, messages}
 use Rattle.protocol.specs.Entries.{empty}
 use Rattle.protocol.specs.Worlds.{World, server, bad, with_view, with_server, no_view, no_server, no_client, no_message, fresh_server, list_to, fresh_world, fresh}
+use Rattle.protocol.proofs.Laws.Worlds.{length_replace}
 use Rattle.codec.specs.Layout.{version, version_place, image_size, header_width, view_width, holder_width, server_width, client_width, message_width}
 use Rattle.codec.specs.Bytes.{le16}
-use Rattle.codec.specs.Lists.{put, flat, flat_zeros, nth_list_to, list_to_nth, length_replace}
+use Rattle.codec.specs.Lists.{put, flat, flat_zeros, nth_list_to, list_to_nth}
 use Rattle.codec.specs.Records.{header_bytes, administrator_bytes, view_bytes, holder_bytes, server_bytes, client_bytes, message_bytes, entry_bytes}
 use Rattle.codec.specs.Places.{put_view, put_server, put_administrator}
 use Rattle.codec.specs.Images.{holders, holder_list, image_with, encode}
@@ -40,6 +41,11 @@ idle_server view keys = record { view = record { 0 = view }; faulty = false; key
 unfoldable pub seeded : List ℕ → ℕ → ℕ → List ℕ
 seeded l bits zero = l
 seeded l bits (suc n) = put_server (seeded l bits n) (suc n) (fresh_server bits (suc n))
+
+-- No proof cites it; it stands for who reads the definitions.
+pub seeded_start : (l : List ℕ) (bits : ℕ) → seeded l bits 0 ≡ l
+unfolding seeded
+seeded_start l bits = refl
 
 -- no view has a faulty key holder
 abbrev none : List ℕ

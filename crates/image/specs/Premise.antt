@@ -3,6 +3,7 @@ use Rattle.std.specs.Prelude.{◌≡◌, refl, Bool, ◌&&◌, true, List, ℕ, 
 use Rattle.std.proofs.Common.{sym, ap, ◌∙◌, add-zero, arith, le-leb}
 use Rattle.std.proofs.Math.Decide.{dec_lt}
 use Rattle.std.proofs.Math.Bool.{and-true, and_assoc}
+use Rattle.std.specs.Cmp.{both_ways}
 use Rattle.protocol.specs.Tools.{count_to, all_to, Result, done, guard}
 use Rattle.protocol.specs.Sizes.{servers, views}
 use Rattle.protocol.specs.Worlds.{view, newest, bad, premise}
@@ -14,7 +15,6 @@ use Rattle.codec.specs.Places.{view_at, holder_at}
 use Rattle.codec.specs.Images.{decode}
 use Rattle.codec.specs.Laws.{view_decode}
 use Rattle.codec.specs.Whole.{plain_image}
-use Rattle.readable.specs.Tests.{as_one}
 use Rattle.key_holders.specs.Holders.{holders_count, holders_beyond}
 use Rattle.readable.specs.Readable.{readable, read}
 
@@ -33,7 +33,7 @@ premise_bytes i e =
     = λ t a b. rw (byte t a b, holders_count (decode i) t, view_decode i t a b) in
     let none : (t : ℕ) → 1 ≤ t → t ≤ views → newest (decode i) < t → few_hold i t ≡ true
     = λ t a b h. rw (byte t a b, holders_beyond (record { one = f.served }) t h) (le-leb 0 (view_at i t).f (omega arith)) in
-    as_one (premise (decode i)) (all_to (few_hold i) views)
+    both_ways (premise (decode i)) (all_to (few_hold i) views)
     (λ p.
     all_to_lem (few_hold i) views
     (λ t a b.

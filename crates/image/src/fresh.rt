@@ -79,6 +79,7 @@ pub fn fresh_view(image: &mut Image, v: View) -> Result<(), Refusal>
 }
 
 // "Fresh world (member bits, f)", and r: "1, buffer not" an image's length "; 8, size rule broken."
+// Three numbers, as C and the program hand them in; below they are a `View`.
 #[tactic(auto, unfolding(crate::specs::Fresh::fresh_on, protocol::specs::Tools::guard))]
 pub fn fresh(image: &mut [u8], members: u32, f: u8, r: u8) -> Result<(), Refusal>
     ensures { (code result ≡ (fresh_on image.old members f r).refusal) × (image.new ≡ (fresh_on image.old members f r).image) }

@@ -1,5 +1,6 @@
 // The premise report. Ranges are `1..n + 1`, which is compiled to a plainer loop than `1..=n`.
 // A number in range stays a number: a type for it would be made and taken apart at each call, with the same goal.
+// What is gone over are numbers, not the elements of a slice.
 ghost use Rattle.std.specs.Prelude.{true, ◌≡◌, ◌+◌, ◌≤◌};
 ghost use Rattle.protocol.specs.Refusals.{outcome};
 ghost use Rattle.protocol.specs.Tools.{all_to};

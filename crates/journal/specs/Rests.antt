@@ -98,6 +98,7 @@ Same i j = resume_on (replay_on i j).image j (replay_on i j).steps ≡ record { 
 refused_same : (i j : List ℕ) (n : ℕ) → replay_on i j ≡ unplayed i n → Same i j
 refused_same i j n e = rw e (rest_some i j 0 (omega arith) ∙ e)
 
+-- No proof cites it; it stands for who reads the definitions.
 pub rest_same : (i j : List ℕ) → Same i j
 unfolding replay_on
 rest_same i j = go (eqb (length i) image_size) (eqb (length j % step_width) 0) (readable i) refl refl refl

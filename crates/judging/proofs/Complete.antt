@@ -10,20 +10,21 @@ use Rattle.std.proofs.Math.Path.{refl}
 use Rattle.std.proofs.Common.{sym, ap, subst, ◌∙◌, inl, inr}
 use mathlib.Core.List.{List, [], ◌∷◌}
 use Rattle.std.proofs.Math.Dec.{leb}
+use Rattle.std.proofs.lemmas.Bool.{and_from}
+use Rattle.std.proofs.lemmas.Option.{same_Some}
 use borrow.Author.Tests.{le-leb, eq-eqb, ne_eqb}
 use Rattle.protocol.specs.declared.Entry.{Entry}
 use Rattle.protocol.specs.Tools.{if}
 use Rattle.protocol.specs.Entries.{empty, writer_of}
 use Rattle.protocol.specs.Clients.{WRITES, READS}
 use Rattle.protocol.specs.Consistent.{Operation, In, here, there, Before}
-use Rattle.protocol.proofs.Laws.Tests.{and_both}
-use Rattle.protocol.proofs.Laws.Entries.{◌≼◌, by_count, by_writer}
+use Rattle.protocol.proofs.Laws.Entries.{◌≼◌, by_count, by_writer, is_same}
+use Rattle.protocol.proofs.Laws.Lists.{Image, before_in, one_way, From, held, from, returned_from}
 use Rattle.judging.specs.declared.Logged.{Logged}
 use Rattle.judging.specs.Orders.{operations, OrderOf}
 use Rattle.judging.specs.Decision.{stamp_rank, rank, sorted, follows, last_write, on_time, last_begin, along, answers, timely, passes}
-use Rattle.judging.proofs.Lists.{Image, before_in, one_way, From, held, from, returned_from}
 use Rattle.judging.proofs.Sorted.{Sane, Fine, rank_stamp, rank_write, rank_level, Rising, next, in_sorted, sorted_rising}
-use Rattle.judging.proofs.Sound.{is_same, some_is, op, line_in, line_stands, order_in}
+use Rattle.judging.proofs.Sound.{op, line_in, line_stands, order_in}
 
 module _ (line : ℕ → Logged) where
   -- where the entry of a read comes from: e, or a write of the list
@@ -91,10 +92,10 @@ module _ (line : ℕ → Logged) where
     where
       go : ((line x).kind ≡ WRITES) ⊎ ((line x).kind ≡ READS) → (Asks (last_write e (line x)) l → answers line (last_write e (line x)) l ≡ true)
           → (follows e (line x) && answers line (last_write e (line x)) l) ≡ true
-      go (inl k) f = and_both (follows e (line x)) _ (rw (eq-eqb (line x).kind WRITES k)) (f (rw (eq-eqb (line x).kind WRITES k) (after_write h a k)))
+      go (inl k) f = and_from (follows e (line x)) _ (rw (eq-eqb (line x).kind WRITES k)) (f (rw (eq-eqb (line x).kind WRITES k) (after_write h a k)))
       go (inr k) f =
           let n = ne_eqb (line x).kind WRITES (λ q. omega arith) in
-          and_both (follows e (line x)) _ (rw n (is_same _ _ (read_entry h a k))) (f (rw n (after_read h a k)))
+          and_from (follows e (line x)) _ (rw n (is_same _ _ (read_entry h a k))) (f (rw n (after_read h a k)))
 
   -- no operation of the list ended before b, or before one in front of it began
   pairs_timely : (b : ℕ) (l : List ℕ) → Rising line l → ((i : ℕ) → In i l → 1 ≤ (line i).end → b ≤ (line i).end)
@@ -102,7 +103,7 @@ module _ (line : ℕ → Logged) where
   unfolding along on_time last_begin
   pairs_timely b [] s o p = refl
   pairs_timely b (k ∷ l) (next r s) o p =
-      and_both _ _ (first (line k).end refl) (pairs_timely (last_begin b (line k)) l s over (λ i j m n. p i j (there m) (there n)))
+      and_from _ _ (first (line k).end refl) (pairs_timely (last_begin b (line k)) l s over (λ i j m n. p i j (there m) (there n)))
     where
       first : (e : ℕ) → (line k).end ≡ e → (eqb e 0 || leb b e) ≡ true
       first zero q = refl
@@ -141,10 +142,10 @@ module _ (line : ℕ → Logged) (n : ℕ) (f : Fine line n) (order : List Opera
   source i m k = go (returned_from g.ordered.reads (placed i m) k)
     where
       go : From (Some empty) order (op line i) → Source line empty s i
-      go (held q) = kept (some_is q)
+      go (held q) = kept (same_Some _ _ q)
       go (from w t q b) =
           let r = found (before_in b) in
-          given r.of r.member (ap (λ (o : Operation). o.kind) r.is ∙ t) (some_is (ap (λ (o : Operation). o.entry) r.is ∙ q))
+          given r.of r.member (ap (λ (o : Operation). o.kind) r.is ∙ t) (same_Some _ _ (ap (λ (o : Operation). o.entry) r.is ∙ q))
 
   asks : Asks line empty s
   unfolding stamp_rank
@@ -180,10 +181,10 @@ module _ (line : ℕ → Logged) (n : ℕ) (f : Fine line n) (order : List Opera
       write_read c p q = go (returned_from g.ordered.reads (placed i m) q)
         where
           go : From (Some empty) order (op line i) → ⊥
-          go (held z) = omega (arith, level c, ap stamp_rank (some_is z), asks.above j k p)
+          go (held z) = omega (arith, level c, ap stamp_rank (same_Some _ _ z), asks.above j k p)
           go (from w t z b) =
               let x = found (before_in b) in
-              let u : x.of ≡ j = one_stamp_lem x.of j x.member k (ap (λ (o : Operation). o.kind) x.is ∙ t) p (ap stamp_rank (some_is (ap (λ (o : Operation). o.entry) x.is ∙ z)) ∙ level c) in
+              let u : x.of ≡ j = one_stamp_lem x.of j x.member k (ap (λ (o : Operation). o.kind) x.is ∙ t) p (ap stamp_rank (same_Some _ _ (ap (λ (o : Operation). o.entry) x.is ∙ z)) ∙ level c) in
               let y : w ≡ op line j = sym x.is ∙ ap (op line) u in
               one_way g.ordered.once (late c) (subst (λ (o : Operation). Before o (op line i) order) y b)
 
@@ -200,4 +201,4 @@ module _ (line : ℕ → Logged) (n : ℕ) (f : Fine line n) (order : List Opera
   -- "A no means that none exists"
   pub sorted_complete : passes line n ≡ true
   unfolding passes
-  sorted_complete = and_both _ _ (asks_answers line empty s rises asks) (pairs_timely line 0 s rises (λ i m e. omega arith) in_time)
+  sorted_complete = and_from _ _ (asks_answers line empty s rises asks) (pairs_timely line 0 s rises (λ i m e. omega arith) in_time)

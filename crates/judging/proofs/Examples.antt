@@ -1,11 +1,11 @@
 -- Logs whose answers are computed: what is judged yes, with its order, what is judged no, and each clause of 14.
 use Rattle.std.specs.Prelude.{ℕ, ◌*◌, Bool, ◌≡◌, refl, List, [], ◌∷◌, ◌++◌, length, replicate}
-use Rattle.protocol.specs.Tools.{Result, refused, done, guard, all_to}
+use Rattle.protocol.specs.Tools.{Result, refused, done, guard, all_to, some_to}
 use Rattle.protocol.specs.Entries.{entry, same, entry_fits}
 use Rattle.codec.specs.Bytes.{le16}
 use Rattle.codec.specs.Lists.{part, flat}
 use Rattle.codec.specs.Records.{entry_of, entry_bytes}
-use Rattle.judging.specs.Decision.{stamp_rank, rank, returns, some_to, returned, stands, insert, sorted_to, follows, last_write, on_time, last_begin, along, passes}
+use Rattle.judging.specs.Decision.{stamp_rank, rank, returns, returned, stands, insert, sorted_to, follows, last_write, on_time, last_begin, along, passes}
 use Rattle.judging.specs.Logs.{logged_of, line_bytes, line_at, spare, in_values, ends_later, counted, numbers_apart, stamps_apart, line_fits, apart_before, lines_fit, well_logged}
 use Rattle.judging.specs.Verdict.{decided, judged}
 

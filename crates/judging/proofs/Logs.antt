@@ -3,11 +3,13 @@ use Rattle.std.specs.Prelude.{ℕ, ◌-◌, ◌≤◌, ◌<◌, ◌^◌, Bool, t
 use Rattle.std.proofs.Math.Decide.{dec_lt}
 use native.Mathlib.Omega.{arith}
 use Rattle.std.proofs.Common.{sym, inl, inr, ltb-true, leb-true, eqb-true, eq-eqb}
+use Rattle.std.specs.Cmp.{first_so, second_so}
+use Rattle.std.proofs.lemmas.Bool.{and_from, or_cases}
 use Rattle.protocol.specs.Tools.{within}
 use Rattle.protocol.specs.Sizes.{clients}
 use Rattle.protocol.specs.Entries.{count_of, writer_of, entry_fits}
 use Rattle.protocol.specs.Clients.{WRITES, READS}
-use Rattle.protocol.proofs.Laws.Tests.{and_left, and_right, and_both, or_cases, clash, within_true, all_to_at}
+use Rattle.protocol.proofs.Laws.Tests.{clash, within_true, all_to_at}
 use Rattle.judging.specs.declared.Logged.{Logged}
 use Rattle.judging.specs.Decision.{stamp_rank}
 use Rattle.judging.proofs.Sorted.{Sane, Fine}
@@ -27,22 +29,22 @@ line_sane b e = record { begin = low; kind = kinds; writer = writers; spans = sp
     x = logged_of b
 
     fields : (in_values x && (ends_later x && counted x)) ≡ true
-    fields = and_right (spare b 5 && spare b 13) _ e
+    fields = second_so (spare b 5 && spare b 13) _ e
 
     values : in_values x ≡ true
-    values = and_left _ _ fields
+    values = first_so _ _ fields
 
     rest : (leb x.end 65535 && (within WRITES READS x.kind && entry_fits x.entry)) ≡ true
-    rest = and_right (within 1 65535 x.begin) _ values
+    rest = second_so (within 1 65535 x.begin) _ values
 
     more : (within WRITES READS x.kind && entry_fits x.entry) ≡ true
-    more = and_right (leb x.end 65535) _ rest
+    more = second_so (leb x.end 65535) _ rest
 
     low : x.begin < 2 ^ 16
-    low = let p = within_true 1 65535 x.begin (and_left _ _ values) in omega arith
+    low = let p = within_true 1 65535 x.begin (first_so _ _ values) in omega arith
 
     kinds : (x.kind ≡ WRITES) ⊎ (x.kind ≡ READS)
-    kinds = go (within_true WRITES READS x.kind (and_left _ _ more)) (dec_lt x.kind READS)
+    kinds = go (within_true WRITES READS x.kind (first_so _ _ more)) (dec_lt x.kind READS)
       where
         go : (WRITES ≤ x.kind) × (x.kind ≤ READS) → Dec (x.kind < READS) → (x.kind ≡ WRITES) ⊎ (x.kind ≡ READS)
         go p (yes q) = inl (omega arith)
@@ -50,18 +52,18 @@ line_sane b e = record { begin = low; kind = kinds; writer = writers; spans = sp
 
     writers : writer_of x.entry < 2 ^ 8
     writers =
-        let p : writer_of x.entry ≤ clients = leb-true _ _ (and_left _ _ (and_right (ltb (count_of x.entry) (2 ^ 32)) _ (and_right (within WRITES READS x.kind) _ more))) in
+        let p : writer_of x.entry ≤ clients = leb-true _ _ (first_so _ _ (second_so (ltb (count_of x.entry) (2 ^ 32)) _ (second_so (within WRITES READS x.kind) _ more))) in
         omega arith
 
     spans : 1 ≤ x.end → x.begin < x.end
-    spans h = go (or_cases _ _ (and_left _ _ (and_right (in_values x) _ fields)))
+    spans h = go (or_cases _ _ (first_so _ _ (second_so (in_values x) _ fields)))
       where
         go : (eqb x.end 0 ≡ true) ⊎ (ltb x.begin x.end ≡ true) → x.begin < x.end
         go (inl q) = let z : x.end ≡ 0 = eqb-true _ _ q in absurd (omega arith)
         go (inr q) = ltb-true _ _ q
 
     count : x.kind ≡ WRITES → 1 ≤ count_of x.entry
-    count k = go (or_cases _ _ (and_right (ends_later x) _ (and_right (in_values x) _ fields)))
+    count k = go (or_cases _ _ (second_so (ends_later x) _ (second_so (in_values x) _ fields)))
       where
         go : (not (eqb x.kind WRITES) ≡ true) ⊎ (ltb 0 (count_of x.entry) ≡ true) → 1 ≤ count_of x.entry
         go (inl q) = absurd (not_both (eqb x.kind WRITES) q (eq-eqb _ _ k))
@@ -70,21 +72,21 @@ line_sane b e = record { begin = low; kind = kinds; writer = writers; spans = sp
 module _ (l : List ℕ) (w : well_logged l ≡ true) where
   tests : (i : ℕ) → 1 ≤ i → i ≤ lines_of l → (line_fits (line_bytes l i) && apart_before l i) ≡ true
   unfolding well_logged lines_fit
-  tests i a b = all_to_at (λ i. line_fits (line_bytes l i) && apart_before l i) (lines_of l) i (and_right (leb (lines_of l) most_lines) _ w) a b
+  tests i a b = all_to_at (λ i. line_fits (line_bytes l i) && apart_before l i) (lines_of l) i (second_so (leb (lines_of l) most_lines) _ w) a b
 
   sane : (i : ℕ) → 1 ≤ i → i ≤ lines_of l → Sane (line_at l i)
   unfolding line_at
-  sane i a b = line_sane (line_bytes l i) (and_left _ _ (tests i a b))
+  sane i a b = line_sane (line_bytes l i) (first_so _ _ (tests i a b))
 
   apart : (i j : ℕ) → 1 ≤ j → j < i → i ≤ lines_of l → (numbers_apart (line_at l j) (line_at l i) && stamps_apart (line_at l j) (line_at l i)) ≡ true
   unfolding apart_before
   apart i j a b c =
-      all_to_at (λ j. numbers_apart (line_at l j) (line_at l i) && stamps_apart (line_at l j) (line_at l i)) (i - 1) j (and_right (line_fits (line_bytes l i)) _ (tests i (omega arith) c)) a
+      all_to_at (λ j. numbers_apart (line_at l j) (line_at l i) && stamps_apart (line_at l j) (line_at l i)) (i - 1) j (second_so (line_fits (line_bytes l i)) _ (tests i (omega arith) c)) a
       (omega arith)
 
   one_begin : (i j : ℕ) → 1 ≤ j → j < i → i ≤ lines_of l → (line_at l j).begin ≡ (line_at l i).begin → ⊥
   unfolding numbers_apart
-  one_begin i j a b c e = not_both (eqb (line_at l j).begin (line_at l i).begin) (and_left _ _ (and_left _ _ (apart i j a b c))) (eq-eqb _ _ e)
+  one_begin i j a b c e = not_both (eqb (line_at l j).begin (line_at l i).begin) (first_so _ _ (first_so _ _ (apart i j a b c))) (eq-eqb _ _ e)
 
   one_stamp_lem : (i j : ℕ) → 1 ≤ j → j < i → i ≤ lines_of l → (line_at l i).kind ≡ WRITES → (line_at l j).kind ≡ WRITES
       → stamp_rank (line_at l i).entry ≡ stamp_rank (line_at l j).entry → ⊥
@@ -96,8 +98,8 @@ module _ (l : List ℕ) (w : well_logged l ≡ true) where
       let writer : writer_of (line_at l j).entry ≡ writer_of (line_at l i).entry = omega arith in
       not_both
       (eqb (line_at l j).kind WRITES && (eqb (line_at l i).kind WRITES && one_stamp (line_at l j).entry (line_at l i).entry))
-      (and_right (numbers_apart (line_at l j) (line_at l i)) _ (apart i j a b c))
-      (and_both _ _ (eq-eqb _ _ q) (and_both _ _ (eq-eqb _ _ p) (and_both _ _ (eq-eqb _ _ count) (eq-eqb _ _ writer))))
+      (second_so (numbers_apart (line_at l j) (line_at l i)) _ (apart i j a b c))
+      (and_from _ _ (eq-eqb _ _ q) (and_from _ _ (eq-eqb _ _ p) (and_from _ _ (eq-eqb _ _ count) (eq-eqb _ _ writer))))
 
   pub logged_fine : Fine (line_at l) (lines_of l)
   logged_fine = record { sane = sane; begins = begins; stamps = stamps }

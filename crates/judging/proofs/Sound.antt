@@ -8,37 +8,23 @@ use Rattle.std.proofs.Math.Path.{refl, ap}
 use Rattle.std.proofs.Common.{sym, subst, ◌∙◌, inl, inr}
 use mathlib.Core.List.{List, [], ◌∷◌, map}
 use Rattle.std.proofs.Math.Dec.{ltb}
+use Rattle.std.specs.Cmp.{first_so, second_so}
+use Rattle.std.proofs.lemmas.Bool.{and_from, or_cases, or_left, or_right}
+use Rattle.std.proofs.lemmas.Option.{same_Some}
 use borrow.Author.Tests.{ltb-true, ltb-false, leb-true, eqb-true, eq-eqb, ne_eqb}
 use Rattle.protocol.specs.declared.Entry.{Entry}
 use Rattle.protocol.specs.Tools.{if}
 use Rattle.protocol.specs.Entries.{empty, count_of, writer_of, same}
 use Rattle.protocol.specs.Clients.{WRITES, READS}
 use Rattle.protocol.specs.Consistent.{Operation, In, here, there, Before, now, later, Once, none as nobody, one, Stands, completed, surfaced, Ended, Reads, end, write, read, Between}
-use Rattle.protocol.proofs.Laws.Tests.{and_left, and_right, and_both, or_cases, clash, last_or, or_first, or_second}
-use Rattle.protocol.proofs.Laws.Entries.{◌≼◌, by_count, by_writer}
+use Rattle.protocol.proofs.Laws.Tests.{clash, some_passing, passing_some}
+use Rattle.protocol.proofs.Laws.Entries.{◌≼◌, by_count, by_writer, same_is, is_same}
+use Rattle.protocol.proofs.Laws.Lists.{Image, in_map, map_in, equal_reads, entry_at_lem}
 use Rattle.judging.specs.declared.Logged.{Logged}
 use Rattle.judging.specs.Orders.{logged_operation, operations, NeverFalling, OrderOf}
-use Rattle.judging.specs.Decision.{stamp_rank, rank, returns, some_to, returned, stands, sorted, follows, last_write, on_time, last_begin, along, answers, timely, passes}
-use Rattle.judging.proofs.Lists.{Image, in_map, map_in, Numbered, in_list_to, list_to_in, equal_reads}
+use Rattle.judging.specs.Decision.{stamp_rank, rank, returns, returned, stands, sorted, follows, last_write, on_time, last_begin, along, answers, timely, passes}
+use Rattle.judging.proofs.Lists.{Numbered, in_list_to, list_to_in}
 use Rattle.judging.proofs.Sorted.{Sane, Fine, rank_begin, rank_stamp, rank_write, Rising, next, in_sorted, sorted_in, sorted_rising}
-
--- entries that agree in every field are one
-pub same_is : (a b : Entry) → same a b ≡ true → a ≡ b
-unfolding same
-same_is a b e =
-    let c : count_of a ≡ count_of b = eqb-true _ _ (and_left _ _ e) in
-    let r = and_right (eqb (count_of a) (count_of b)) _ e in
-    let w : writer_of a ≡ writer_of b = eqb-true _ _ (and_left _ _ r) in
-    let v : a.value ≡ b.value = eqb-true _ _ (and_right (eqb (writer_of a) (writer_of b)) _ r) in
-    λ i. record { stamp = record { count = record { 0 = c i }; writer = w i }; value = v i }
-
-pub is_same : (a b : Entry) → a ≡ b → same a b ≡ true
-unfolding same
-is_same a b e =
-    and_both _ _ (eq-eqb _ _ (ap count_of e)) (and_both _ _ (eq-eqb _ _ (ap writer_of e)) (eq-eqb _ _ (ap (λ (x : Entry). x.value) e)))
-
-pub some_is : {a b : Entry} → Some a ≡ Some b → a ≡ b
-some_is q = cc
 
 -- a number that is not 0
 pub not_zero : (n : ℕ) → not (eqb n 0) ≡ true → 1 ≤ n
@@ -48,32 +34,6 @@ not_zero (suc n) e = omega arith
 pub is_not_zero : (n : ℕ) → 1 ≤ n → not (eqb n 0) ≡ true
 is_not_zero zero h = absurd (omega arith)
 is_not_zero (suc n) h = rw (ne_eqb (suc n) 0 (λ e. omega arith)) refl
-
--- ---- one of the lines 1 to n that passes a test
-
-record Passing (p : ℕ → Bool) (n : ℕ) : Type 0 where
-  at : ℕ
-  low : 1 ≤ at
-  high : at ≤ n
-  test : p at ≡ true
-
-some_passing : (p : ℕ → Bool) (n : ℕ) → some_to p n ≡ true → Passing p n
-unfolding some_to
-some_passing p zero e = clash e refl
-some_passing p (suc n) e = go (or_cases (some_to p n) _ e) (some_passing p n)
-  where
-    go : (some_to p n ≡ true) ⊎ (p (suc n) ≡ true) → (some_to p n ≡ true → Passing p n) → Passing p (suc n)
-    go (inl h) ih = let r = ih h in let m = r.high in record { at = r.at; low = r.low; high = omega arith; test = r.test }
-    go (inr h) ih = record { at = suc n; low = omega arith; high = omega arith; test = h }
-
-pub passing_some : (p : ℕ → Bool) (n i : ℕ) → 1 ≤ i → i ≤ n → p i ≡ true → some_to p n ≡ true
-unfolding some_to
-passing_some p zero i l h e = absurd (omega arith)
-passing_some p (suc n) i l h e = go (last_or i n h) (λ m. passing_some p n i l m e)
-  where
-    go : (i ≡ suc n) ⊎ (i ≤ n) → (i ≤ n → some_to p n ≡ true) → (some_to p n || p (suc n)) ≡ true
-    go (inl q) ih = or_second (some_to p n) _ (ap p (sym q) ∙ e)
-    go (inr q) ih = or_first (some_to p n) _ (ih q)
 
 -- ---- what the two passes tell
 
@@ -85,7 +45,7 @@ module _ (line : ℕ → Logged) where
   unfolding along follows last_write
   answers_reads e [] s h = end
   answers_reads e (i ∷ l) s h =
-      go (s i (here refl)).kind (and_left _ _ h) (answers_reads (last_write e (line i)) l (λ j m. s j (there m)) (and_right (follows e (line i)) _ h))
+      go (s i (here refl)).kind (first_so _ _ h) (answers_reads (last_write e (line i)) l (λ j m. s j (there m)) (second_so (follows e (line i)) _ h))
     where
       held : ((line i).kind ≡ READS) → (eqb (line i).kind WRITES ≡ true) ⊎ (same (line i).entry e ≡ true) → (line i).entry ≡ e
       held k (inl q) = absurd (omega (arith, eqb-true (line i).kind WRITES q))
@@ -117,8 +77,8 @@ module _ (line : ℕ → Logged) where
   timely_over : (b : ℕ) (l : List ℕ) → timely line b l ≡ true → (i : ℕ) → In i l → 1 ≤ (line i).end → b ≤ (line i).end
   unfolding along
   timely_over b [] h i x3 e = elim x3 [ ]
-  timely_over b (j ∷ l) h i (here q) e = rw q at (on_time_lem b (line j) (and_left _ _ h) (rw q e))
-  timely_over b (j ∷ l) h i (there k) e = (begin_held b (line j) (line i).end (timely_over (last_begin b (line j)) l (and_right (on_time b (line j)) _ h) i k e)).0
+  timely_over b (j ∷ l) h i (here q) e = rw q at (on_time_lem b (line j) (first_so _ _ h) (rw q e))
+  timely_over b (j ∷ l) h i (there k) e = (begin_held b (line j) (line i).end (timely_over (last_begin b (line j)) l (second_so (on_time b (line j)) _ h) i k e)).0
 
   timely_pair : (b : ℕ) (l : List ℕ) → Rising line l → timely line b l ≡ true → (i j : ℕ) → In i l → In j l → rank (line j) < rank (line i) → 1 ≤ (line i).end → (line j).begin ≤ (line i).end
   unfolding along
@@ -126,9 +86,9 @@ module _ (line : ℕ → Logged) where
   timely_pair b (k ∷ l) (next r s) h i j (here p) (here q) g e = absurd (omega (arith, ap (λ (x : ℕ). rank (line x)) p, ap (λ (x : ℕ). rank (line x)) q))
   timely_pair b (k ∷ l) (next r s) h i j (here p) (there n) g e = absurd (omega (arith, ap (λ (x : ℕ). rank (line x)) p, r j n))
   timely_pair b (k ∷ l) (next r s) h i j (there m) (here q) g e =
-      rw (← q) (begin_held b (line k) (line i).end (timely_over (last_begin b (line k)) l (and_right (on_time b (line k)) _ h) i m e)).1
+      rw (← q) (begin_held b (line k) (line i).end (timely_over (last_begin b (line k)) l (second_so (on_time b (line k)) _ h) i m e)).1
   timely_pair b (k ∷ l) (next r s) h i j (there m) (there n) g e =
-      timely_pair (last_begin b (line k)) l s (and_right (on_time b (line k)) _ h) i j m n g e
+      timely_pair (last_begin b (line k)) l s (second_so (on_time b (line k)) _ h) i j m n g e
 
   -- ---- ranks and places
 
@@ -164,7 +124,7 @@ module _ (line : ℕ → Logged) where
       let b = ap (λ (o : Operation). o.begin) e in
       let f = ap (λ (o : Operation). o.end) e in
       let k = ap (λ (o : Operation). o.kind) e in
-      let q : (line i).entry ≡ (line j).entry = some_is (ap (λ (o : Operation). o.entry) e) in
+      let q : (line i).entry ≡ (line j).entry = same_Some _ _ (ap (λ (o : Operation). o.entry) e) in
       λ t. record { begin = b t; end = f t; kind = k t; entry = q t }
 
   rising_once : (l : List ℕ) → Rising line l → Once (map op l)
@@ -196,29 +156,29 @@ module _ (line : ℕ → Logged) (n : ℕ) where
       go (inl q) z = completed (not_zero (line i).end q)
       go (inr q) (no z) = completed (omega arith)
       go (inr q) (yes z) =
-          let r = some_passing (λ j. returns (line j) (line i)) n (and_right (eqb (line i).kind WRITES) _ q) in
-          let t = and_right (eqb (line r.at).kind READS) _ r.test in
-          surfaced (eqb-true _ _ (and_left _ _ q)) z
+          let r = some_passing (λ j. returns (line j) (line i)) n (second_so (eqb (line i).kind WRITES) _ q) in
+          let t = second_so (eqb (line r.at).kind READS) _ r.test in
+          surfaced (eqb-true _ _ (first_so _ _ q)) z
           (record {
             by = op line r.at;
             held = line_in r.at r.low r.high;
-            read = eqb-true _ _ (and_left _ _ r.test);
-            completed = not_zero (line r.at).end (and_left _ _ t);
-            same = ap Some (same_is _ _ (and_right (not (eqb (line r.at).end 0)) _ t));
+            read = eqb-true _ _ (first_so _ _ r.test);
+            completed = not_zero (line r.at).end (first_so _ _ t);
+            same = ap Some (same_is _ _ (second_so (not (eqb (line r.at).end 0)) _ t));
           })
 
   pub stands_line : (i : ℕ) → Stands h (op line i) → stands line n i ≡ true
   unfolding stands returned returns
-  stands_line i (completed e) = or_first _ _ (is_not_zero (line i).end e)
+  stands_line i (completed e) = or_left _ _ (is_not_zero (line i).end e)
   stands_line i (surfaced k z r) =
       let m = in_line r.held in
       let j = m.at in
       let c : 1 ≤ (line j).end = omega (arith, r.completed, ap (λ (o : Operation). o.end) m.is) in
-      or_second (not (eqb (line i).end 0)) _
-      (and_both _ _ (eq-eqb _ _ k)
+      or_right (not (eqb (line i).end 0)) _
+      (and_from _ _ (eq-eqb _ _ k)
       (passing_some (λ j. returns (line j) (line i)) n j m.low m.high
-      (and_both _ _ (eq-eqb _ _ (ap (λ (o : Operation). o.kind) m.is ∙ r.read))
-      (and_both _ _ (is_not_zero (line j).end c) (is_same _ _ (some_is (ap (λ (o : Operation). o.entry) m.is ∙ r.same)))))))
+      (and_from _ _ (eq-eqb _ _ (ap (λ (o : Operation). o.kind) m.is ∙ r.read))
+      (and_from _ _ (is_not_zero (line j).end c) (is_same _ _ (same_Some _ _ (ap (λ (o : Operation). o.entry) m.is ∙ r.same)))))))
 
   abbrev s : List ℕ
   s = sorted line n
@@ -259,11 +219,11 @@ module _ (line : ℕ → Logged) (n : ℕ) where
 
     in_time : timely line 0 s ≡ true
     unfolding passes
-    in_time = and_right (answers line empty s) _ pass
+    in_time = second_so (answers line empty s) _ pass
 
     legal : Reads (Some empty) (map (op line) s)
     unfolding passes
-    legal = answers_reads line empty s sane (and_left _ _ pass)
+    legal = answers_reads line empty s sane (first_so _ _ pass)
 
     real_time_lem : (x y : Operation) → In x (map (op line) s) → In y (map (op line) s) → Ended x y → Before x y (map (op line) s)
     real_time_lem x y i j e = go (in_map (op line) s i) (in_map (op line) s j)
@@ -290,10 +250,7 @@ module _ (line : ℕ → Logged) (n : ℕ) where
     equal_iff x y k m b = (apart, λ n. equal_reads (Some empty) (map (op line) s) x y legal k m b (λ z t f g. n (record { by = z; write = t; after = f; before = g })))
       where
         stamp_at : (i j : ℕ) → (op line i).entry ≡ (op line j).entry → stamp_rank (line i).entry ≡ stamp_rank (line j).entry
-        stamp_at i j e = ap stamp_rank (some_is e)
-
-        entry_at_lem : {a b : Operation} → a ≡ b → a.entry ≡ b.entry
-        entry_at_lem e = ap (λ (o : Operation). o.entry) e
+        stamp_at i j e = ap stamp_rank (same_Some _ _ e)
 
         apart : x.entry ≡ y.entry → Between (map (op line) s) x y → ⊥
         apart e z =
@@ -313,8 +270,8 @@ module _ (line : ℕ → Logged) (n : ℕ) where
         go : (x y : Operation) → Before x y (map (op line) s) → (e g : Entry) → x.entry ≡ Some e → y.entry ≡ Some g → e ≼ g
         go x y b e g p q =
             let c = pair line s rises b in
-            let u : (line c.one).entry ≡ e = some_is (ap (λ (o : Operation). o.entry) c.is_one ∙ p) in
-            let v : (line c.two).entry ≡ g = some_is (ap (λ (o : Operation). o.entry) c.is_two ∙ q) in
+            let u : (line c.one).entry ≡ e = same_Some _ _ (ap (λ (o : Operation). o.entry) c.is_one ∙ p) in
+            let v : (line c.two).entry ≡ g = same_Some _ _ (ap (λ (o : Operation). o.entry) c.is_two ∙ q) in
             rw (← u, ← v) (rank_≼ (line c.one).entry (line c.two).entry (sane c.one c.one_in).writer (sane c.two c.two_in).writer
             (rank_stamp (sane c.one c.one_in) (sane c.two c.two_in) c.less))
 

@@ -3,9 +3,10 @@ use Rattle.std.specs.Prelude.{ℕ, ◌*◌, ◌%◌, Bool, ◌≡◌, List, map,
 use Rattle.std.proofs.Common.{arith, sym, ap, eqb-true}
 use Rattle.std.proofs.Math.Bool.{true, false}
 use Rattle.std.proofs.Math.Path.{refl}
+use Rattle.std.specs.Cmp.{second_so}
 use Rattle.protocol.specs.Tools.{Result, refused, done, guard}
 use Rattle.protocol.specs.Consistent.{Operation}
-use Rattle.protocol.proofs.Laws.Tests.{and_right, clash}
+use Rattle.protocol.proofs.Laws.Tests.{clash}
 use Rattle.judging.specs.Orders.{logged_operation, OrderOf}
 use Rattle.judging.specs.Decision.{sorted, passes}
 use Rattle.judging.specs.Logs.{line_width, lines_of, line_at, well_logged}
@@ -73,7 +74,7 @@ module _ (log before : List ℕ) where
           record {
             lines = s;
             count = cc;
-            bytes = ap (order_bytes s) (eqb-true (length before) (place_width * lines_of log) (and_right (eqb (length log % line_width) 0) _ f));
+            bytes = ap (order_bytes s) (eqb-true (length before) (place_width * lines_of log) (second_so (eqb (length log % line_width) 0) _ f));
             within = λ i m. let d = in_sorted (line_at log) (lines_of log) (lines_of log) m in (d.low, d.high);
             order = sorted_sound (line_at log) (lines_of log) (logged_fine log w) e;
           }

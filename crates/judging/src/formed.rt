@@ -33,7 +33,7 @@ fn ends_later(x: Logged) -> bool
 fn counted(x: Logged) -> bool
     ensures { result ≡ counted x }
 {
-    x.kind != u8::from(Operation::Write) || x.entry.stamp.count.0 > 0
+    !x.is_on(Operation::Write) || x.entry.stamp.count.0 > 0
 }
 
 // "a begin or end number other than 0 used twice", by two lines
@@ -49,9 +49,7 @@ fn numbers_apart(x: Logged, y: Logged) -> bool
 fn stamps_apart(x: Logged, y: Logged) -> bool
     ensures { result ≡ stamps_apart x y }
 {
-    x.kind != u8::from(Operation::Write)
-        || y.kind != u8::from(Operation::Write)
-        || x.entry.stamp != y.entry.stamp
+    !x.is_on(Operation::Write) || !y.is_on(Operation::Write) || x.entry.stamp != y.entry.stamp
 }
 
 // The clauses that ask of one line.

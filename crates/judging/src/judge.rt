@@ -25,7 +25,7 @@ fn list(order: &mut [u8], lines: &[u16])
     }
 }
 
-// A well-formed log and an order buffer of the right length.
+// A well-formed log and an order buffer of the right length. The list and the log's lines are handed on as `sort` has them.
 #[tactic(auto, using(crate::proofs::Sorting::sorted_numbers), unfolding(crate::specs::Verdict::decided, crate::specs::Decision::passes, protocol::specs::Tools::guard))]
 fn decide(log: &[u8], order: &mut [u8]) -> Result<u16, Refusal>
     requires { (lines_of log.now ≤ most_lines) × (length order.old ≡ place_width * lines_of log.now) }

@@ -15,14 +15,14 @@ use values::entries::same;
 fn follows(last: Entry, x: Logged) -> bool
     ensures { result ≡ follows last x }
 {
-    x.kind == u8::from(Operation::Write) || same(x.entry, last)
+    x.is_on(Operation::Write) || same(x.entry, last)
 }
 
 #[tactic(auto, unfolding(crate::specs::Decision::last_write))]
 fn last_write(last: Entry, x: Logged) -> Entry
     ensures { result ≡ last_write last x }
 {
-    if x.kind == u8::from(Operation::Write) {
+    if x.is_on(Operation::Write) {
         x.entry
     } else {
         last
@@ -54,6 +54,7 @@ pub fn in_order(log: &[u8], order: &[u16]) -> bool
     let mut latest = 0;
     for &i in order {
         let x = line(log, i);
+        // The way out of the loop; the pass goes on with what it found.
         if !follows(last, x) || !on_time(latest, x) {
             return false;
         }

@@ -2,9 +2,10 @@
 use Rattle.std.specs.Prelude.{◌≡◌, refl, Bool, true, false, not, ◌&&◌, ◌||◌, List, [], ◌∷◌, ℕ, zero, suc, ◌+◌, ◌≤◌, length, eqb, leb}
 use Rattle.std.proofs.Common.{sym, ap, ◌∙◌, arith, eqb-true, eq-eqb, ne_eqb, leb-true}
 use Rattle.std.proofs.Math.Decide.{dec_lt}
-use Rattle.std.proofs.lemmas.Bool.{not-true}
-use Rattle.protocol.specs.Tools.{if, bit, within, count_to, sum_to, any, all, both}
+use Rattle.std.proofs.lemmas.Bool.{not-true, and_parts}
+use Rattle.protocol.specs.Tools.{if, bit, within, count_to, sum_to, any, all}
 use Rattle.protocol.specs.Readable.{distinct}
+use Rattle.protocol.proofs.Laws.Counts.{bit_mono, count_mono}
 
 -- what holds of each of the numbers 1 to n
 pub record Each (n : ℕ) (P : ℕ → Type 0) : Type 0 where
@@ -24,18 +25,6 @@ upto n h p =
     }
 
 -- ---- counts
-
-bit_imp : (a b : Bool) → (a ≡ true → b ≡ true) → bit a ≤ bit b
-bit_imp true b f = rw (f refl) (omega arith)
-bit_imp false true f = omega arith
-bit_imp false false f = omega arith
-
-pub count_mono : (p q : ℕ → Bool) (n : ℕ) → Each n (λ k. p k ≡ true → q k ≡ true) → count_to p n ≤ count_to q n
-unfolding count_to
-count_mono p q zero h = omega arith
-count_mono p q (suc n) h =
-    let ih = count_mono p q n (less h) in
-    omega (arith, bit_imp (p (suc n)) (q (suc n)) (top h))
 
 pub count_ext : (p q : ℕ → Bool) (n : ℕ) → Each n (λ k. p k ≡ q k) → count_to p n ≡ count_to q n
 unfolding count_to
@@ -73,8 +62,8 @@ pub count_same : (p q : ℕ → Bool) (n : ℕ) → Each n (λ k. p k ≡ true �
 unfolding count_to
 count_same p q zero h e = record { one = λ k l m. absurd (omega arith) }
 count_same p q (suc n) h e =
-    let a = count_mono p q n (less h) in
-    let b = bit_imp (p (suc n)) (q (suc n)) (top h) in
+    let a = count_mono p q n (less h).one in
+    let b = bit_mono (p (suc n)) (q (suc n)) (top h) in
     upto n (count_same p q n (less h) (omega arith)) (bit_same (p (suc n)) (q (suc n)) (omega arith))
 
 pub bit_or_lem : (a b : Bool) → (a ≡ true → b ≡ false) → bit (a || b) ≡ bit a + bit b
@@ -108,9 +97,9 @@ pub count_list : (l : List ℕ) (n : ℕ) → distinct l ≡ true → all (withi
 unfolding distinct all any
 count_list [] n d a = count_none (λ k. false) n (record { one = λ k x y. refl })
 count_list (x ∷ l) n d a =
-    let d2 = both (not (any (eqb x) l)) (distinct l) d in
-    let a2 = both (within 1 n x) (all (within 1 n) l) a in
-    let r = both (leb 1 x) (leb x n) a2.0 in
+    let d2 = and_parts (not (any (eqb x) l)) (distinct l) d in
+    let a2 = and_parts (within 1 n x) (all (within 1 n) l) a in
+    let r = and_parts (leb 1 x) (leb x n) a2.0 in
     count_or (λ k. eqb k x) (λ k. any (eqb k) l) n (λ k e. rw (eqb-true k x e) (not-true _ d2.0))
     ∙ ap (λ (m : ℕ). m + count_to (λ k. any (eqb k) l) n) (count_one x n (leb-true 1 x r.0) (leb-true x n r.1))
     ∙ (let ih = count_list l n d2.1 a2.1 in omega arith)

@@ -4,13 +4,14 @@
 use Rattle.std.specs.Prelude.{◌≡◌, refl, Bool, true, false, ◌&&◌, List, ℕ, ◌^◌, ◌≤◌, ◌<◌, ltb, leb, eqb}
 use Rattle.std.proofs.Common.{sym, ap, arith, ltb-true}
 use Rattle.std.proofs.Math.Bool.{and-false}
+use Rattle.std.proofs.lemmas.Bool.{and_parts}
 use Rattle.protocol.specs.declared.Administrator.{Administrator}
-use Rattle.protocol.specs.Tools.{count_to, both}
+use Rattle.protocol.specs.Tools.{count_to}
 use Rattle.protocol.specs.Sizes.{servers}
 use Rattle.protocol.specs.Entries.{entry_fits}
 use Rattle.protocol.specs.Worlds.{World, server, newest, bad}
 use Rattle.protocol.specs.Readable.{key_rule, server_fits}
-use Rattle.protocol.proofs.Laws.Tests.{count_le}
+use Rattle.protocol.proofs.Laws.Counts.{count_le}
 use Rattle.values.specs.Bits.{holds_beyond}
 use Rattle.codec.specs.Places.{administrator_at, holder_at}
 use Rattle.codec.specs.Images.{holders, decode}
@@ -37,8 +38,8 @@ holders_none w t h = count_none (bad w t) servers (record { one = h })
 not_held : (w : World) (t s : ℕ) → server_fits w s ≡ true → newest w < t → bad w t s ≡ false
 unfolding server_fits bad
 not_held w t s e h =
-    let a = both (leb (server w s).view.0 (newest w)) (ltb (server w s).keys.0 (2 ^ newest w) && (key_rule (server w s) && entry_fits (server w s).entry)) e in
-    let b = both (ltb (server w s).keys.0 (2 ^ newest w)) (key_rule (server w s) && entry_fits (server w s).entry) a.1 in
+    let a = and_parts (leb (server w s).view.0 (newest w)) (ltb (server w s).keys.0 (2 ^ newest w) && (key_rule (server w s) && entry_fits (server w s).entry)) e in
+    let b = and_parts (ltb (server w s).keys.0 (2 ^ newest w)) (key_rule (server w s) && entry_fits (server w s).entry) a.1 in
     rw (holds_beyond (newest w) (server w s).keys.0 t (ltb-true _ _ b.0) h) (and-false (server w s).faulty)
 
 -- every server fits its world

@@ -3,6 +3,7 @@
 // A number in range stays a number: a type for it would be made and taken apart at each call, with the same goal.
 #![tactic(auto)]
 
+// What is gone over are numbers, not the elements of a slice.
 ghost use Rattle.std.specs.Prelude.{◌≡◌, ◌≤◌};
 ghost use Rattle.protocol.specs.Tools.{count_to, all_to};
 ghost use Rattle.protocol.specs.Sizes.{servers, views};

@@ -29,6 +29,7 @@ fn write_load<W: Write>(output: &mut W, draws: &mut Draws, steps: u32) -> bool
         let n = left.min(PIECE);
         let piece = &mut buffer[..STEP * n as usize];
         fill(piece, draws, n);
+        // The way out of the loop.
         if !write_all(output, piece) {
             return false;
         }

@@ -95,9 +95,11 @@ split_more state n left k s t h i p q =
     q ∙ ap (λ (x : ℕ). (load_from x k).state) p ∙ sym (state_split state (n - left) k) ∙ ap (λ (x : ℕ). (load_from state x).state) e
 
 -- a piece at the start of a longer buffer, before and after it is filled
+-- No proof cites it; it stands for who reads the definitions.
 pub prefix : (n : ℕ) (l : List ℕ) → n ≤ length l → n ≡ length (take n l)
 prefix n l h = sym (length-take-le n l h)
 
+-- No proof cites it; it stands for who reads the definitions.
 pub filled_prefix : (state n : ℕ) (x rest : List ℕ) → x ≡ (load_from state n).journal → step_width * n ≡ length (take (step_width * n) (x ++ rest))
 filled_prefix state n x rest p =
     rw p

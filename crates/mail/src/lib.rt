@@ -37,7 +37,7 @@ pub fn answer(s: ServerNumber, n: MessageNumber, x: Shown) -> Message
     ensures { result ≡ answer_of s.0 n.0 x }
 {
     Message {
-        kind: MessageKind::Answer as u8,
+        kind: u8::from(MessageKind::Answer),
         sender: s.0,
         view: x.view,
         request: n,

@@ -6,6 +6,7 @@ use Rattle.std.proofs.Common.{sym, ◌∙◌}
 use Rattle.std.proofs.Math.Path.{refl, ap, ap₂}
 use mathlib.Core.List.{List, [], ◌∷◌, ◌++◌}
 use Rattle.std.proofs.lemmas.Bool.{not-true}
+use Rattle.std.specs.Cmp.{first_so}
 use Rattle.values.specs.declared.tally.Tally.{Tally}
 use Rattle.protocol.specs.declared.Message.{Message}
 use Rattle.protocol.specs.Tools.{if, done}
@@ -16,7 +17,6 @@ use Rattle.protocol.specs.Chains.{follow, chain}
 use Rattle.protocol.specs.Steps.{link, open?, taken_with}
 use Rattle.protocol.specs.Readable.{is_asked}
 use Rattle.protocol.proofs.Laws.Formed.{Formed}
-use Rattle.protocol.proofs.Laws.Tests.{and_left}
 use Rattle.protocol.proofs.Laws.Worlds.{content, sent, sent_link, message_new}
 use Rattle.preservation.proofs.Chained.{chained}
 use Rattle.preservation.proofs.Links.{chain_head}
@@ -63,7 +63,7 @@ record_kept w v r ks s =
 chain_along : (w : World) (k : ℕ) → Formed w → present w k && eqb (message w k).kind ANSWER ≡ true
     → not (message w k).taken && open? w (message w k).request.0 ≡ true → chain (link w k) (message w k).request.0 ≡ taken_with w k
 chain_along w k f a b =
-    let u = untaken f k a (not-true (message w k).taken (and_left _ _ b)) in
+    let u = untaken f k a (not-true (message w k).taken (first_so _ _ b)) in
     chain_head u (chained w (message w k).request.0 (f.chained (message w k).request.0 u.from u.to) u.asked)
 
 pub answer_along : (w : World) (k : ℕ) (e : List ℕ) → Formed w → present w k && eqb (message w k).kind ANSWER ≡ true

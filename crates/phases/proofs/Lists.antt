@@ -2,11 +2,12 @@
 -- shown, and whether all carry it. The list goes from the newest to the oldest, as `chain` has it. Used by Same.
 use Rattle.std.specs.Prelude.{ℕ, ◌-◌, ◌≤◌, ◌<◌, ◌^◌, Bool, ◌&&◌, ◌||◌, ◌≡◌, ◌⊎◌, List, [], ◌∷◌, ltb, leb, None, Some}
 use Rattle.std.proofs.Common.{arith, ap, ◌∙◌, inl, inr, pow_mono, ltb-true, ltb-false, eqb-true, eq-eqb, ne_eqb, lt-ltb, le-ltb}
-use Rattle.std.proofs.Math.Bool.{true, false, or-false}
+use Rattle.std.proofs.Math.Bool.{true, false, or-false, or_comm}
 use Rattle.std.proofs.Math.Path.{refl, sym, ap₂}
 use Rattle.std.proofs.Math.Dec.{eqb}
 use Rattle.std.specs.Int.Bits.{bit_or, or_lt}
-use Rattle.std.proofs.lemmas.Bool.{eqb-false}
+use Rattle.std.proofs.lemmas.Bool.{eqb-false, or_right, or_cases}
+use Rattle.std.specs.Cmp.{first_so, second_so}
 use Rattle.values.specs.declared.tally.Tally.{Tally}
 use Rattle.protocol.specs.declared.Choice.{Choice}
 use Rattle.protocol.specs.declared.Entry.{Entry}
@@ -17,7 +18,7 @@ use Rattle.protocol.specs.Entries.{empty, count_of, writer_of, below, larger, la
 use Rattle.protocol.specs.Worlds.{World, message}
 use Rattle.protocol.specs.Chains.{tagged, heard, enough, shown, agreed}
 use Rattle.protocol.proofs.Laws.Bits.{holds_or, holds_none}
-use Rattle.protocol.proofs.Laws.Tests.{and_left, and_right, or_second, or_cases, by_test, clash, within_true}
+use Rattle.protocol.proofs.Laws.Tests.{by_test, clash, within_true}
 use Rattle.protocol.proofs.Laws.Entries.{same_is, is_same, largest_same, larger_one, all_one}
 use Rattle.values.specs.Bits.{bit_in, bit_in_lem, bit_at, bit_held, count_same}
 use Rattle.values.specs.Tallies.{first_answer, closes_at, choice}
@@ -42,11 +43,11 @@ below_on a b c e f =
 
     go : less a b → less b c → (ltb (count_of a) (count_of c) || (eqb (count_of a) (count_of c) && ltb (writer_of a) (writer_of c))) ≡ true
     go (inl h) (inl k) = first (omega (arith, ltb-true (count_of a) (count_of b) h, ltb-true (count_of b) (count_of c) k))
-    go (inl h) (inr k) = first (omega (arith, ltb-true (count_of a) (count_of b) h, eqb-true (count_of b) (count_of c) (and_left (eqb (count_of b) (count_of c)) _ k)))
-    go (inr h) (inl k) = first (omega (arith, ltb-true (count_of b) (count_of c) k, eqb-true (count_of a) (count_of b) (and_left (eqb (count_of a) (count_of b)) _ h)))
+    go (inl h) (inr k) = first (omega (arith, ltb-true (count_of a) (count_of b) h, eqb-true (count_of b) (count_of c) (first_so (eqb (count_of b) (count_of c)) _ k)))
+    go (inr h) (inl k) = first (omega (arith, ltb-true (count_of b) (count_of c) k, eqb-true (count_of a) (count_of b) (first_so (eqb (count_of a) (count_of b)) _ h)))
     go (inr h) (inr k) =
-        second (omega (arith, eqb-true (count_of a) (count_of b) (and_left (eqb (count_of a) (count_of b)) _ h), eqb-true (count_of b) (count_of c) (and_left (eqb (count_of b) (count_of c)) _ k)))
-        (omega (arith, ltb-true (writer_of a) (writer_of b) (and_right (eqb (count_of a) (count_of b)) _ h), ltb-true (writer_of b) (writer_of c) (and_right (eqb (count_of b) (count_of c)) _ k)))
+        second (omega (arith, eqb-true (count_of a) (count_of b) (first_so (eqb (count_of a) (count_of b)) _ h), eqb-true (count_of b) (count_of c) (first_so (eqb (count_of b) (count_of c)) _ k)))
+        (omega (arith, ltb-true (writer_of a) (writer_of b) (second_so (eqb (count_of a) (count_of b)) _ h), ltb-true (writer_of b) (writer_of c) (second_so (eqb (count_of b) (count_of c)) _ k)))
 
 -- the stamp of a is at least that of b
 pub record AtLeast (a b : Entry) : Type 0 where
@@ -128,12 +129,6 @@ module _ (s : ℕ) (h : 1 ≤ s) (k : s ≤ servers) where
   some_bit : (x : ℕ) → holds x s ≡ true → x ≡ 0 → ⊥
   some_bit x e z = clash e (rw z (holds_none s))
 
-or_comm : (a b : Bool) → (a || b) ≡ (b || a)
-or_comm true true = refl
-or_comm true false = refl
-or_comm false true = refl
-or_comm false false = refl
-
 -- a tally that can be stored: its servers are 32 bits, its entry is in its range, and where nobody was heard it is `no_tally`
 pub record TallyStorable (a : Tally) : Type 0 where
   pub small : a.seen.0 < 2 ^ 32
@@ -150,7 +145,7 @@ module _ (a : Tally) (m : Message) (h : within 1 servers m.sender ≡ true) wher
   both_bits : bit_or a.seen.0 (bit_in m.sender) ≡ 0 → ⊥
   both_bits z =
       some_bit m.sender low high (bit_or a.seen.0 (bit_in m.sender))
-      (holds_or a.seen.0 (bit_in m.sender) m.sender ∙ or_second (holds a.seen.0 m.sender) _ (own_bit m.sender low high)) z
+      (holds_or a.seen.0 (bit_in m.sender) m.sender ∙ or_right (holds a.seen.0 m.sender) _ (own_bit m.sender low high)) z
 
   one_bit : bit_in m.sender ≡ 0 → ⊥
   one_bit z = some_bit m.sender low high (bit_in m.sender) (own_bit m.sender low high) z
@@ -182,15 +177,15 @@ module _ (a : Tally) (m : Message) (h : within 1 servers m.sender ≡ true) wher
 pub in_sound : (w : World) (t : ℕ) (ks : List ℕ) → all (valid_answer w) ks ≡ true → TallyStorable (tally_in w t ks)
 unfolding tally_in all entry_fits
 in_sound w t [] e = record { small = omega arith; fits = refl; quiet = λ z. (refl, refl) }
-in_sound w t (k ∷ ks) e = go (tagged w t k) (in_sound w t ks (and_right (valid_answer w k) _ e))
+in_sound w t (k ∷ ks) e = go (tagged w t k) (in_sound w t ks (second_so (valid_answer w k) _ e))
   where
     one : valid_answer w k ≡ true
-    one = and_left (valid_answer w k) _ e
+    one = first_so (valid_answer w k) _ e
 
     go : (b : Bool) → TallyStorable (tally_in w t ks) → TallyStorable (if b (count_answer (tally_in w t ks) (message w k)) (tally_in w t ks))
     go true s =
-        counted_sound (tally_in w t ks) (message w k) (and_left (within 1 servers (message w k).sender) _ one) s
-        (and_right (within 1 servers (message w k).sender) _ one)
+        counted_sound (tally_in w t ks) (message w k) (first_so (within 1 servers (message w k).sender) _ one) s
+        (second_so (within 1 servers (message w k).sender) _ one)
     go false s = s
 
 -- ---- what the tally says is what the list says
@@ -245,14 +240,14 @@ module _ (a : Tally) (from : ℕ → Bool) (es : List Entry) (m : Message) (h : 
 pub in_tells : (w : World) (t : ℕ) (ks : List ℕ) → all (valid_answer w) ks ≡ true → Tells (tally_in w t ks) (heard w t ks) (shown w t ks)
 unfolding tally_in heard any shown all
 in_tells w t [] e = record { seen = λ s l u. holds_none s; best = refl; one = refl; state = nobody refl refl }
-in_tells w t (k ∷ ks) e = go (tagged w t k) (in_tells w t ks (and_right (valid_answer w k) _ e))
+in_tells w t (k ∷ ks) e = go (tagged w t k) (in_tells w t ks (second_so (valid_answer w k) _ e))
   where
     go : (b : Bool) → Tells (tally_in w t ks) (heard w t ks) (shown w t ks)
         → Tells (if b (count_answer (tally_in w t ks) (message w k)) (tally_in w t ks)) (λ s. (b && eqb (message w k).sender s) || heard w t ks s)
         (if b ((message w k).entry ∷ shown w t ks) (shown w t ks))
     go true h =
         tells_more (tally_in w t ks) (heard w t ks) (shown w t ks) (message w k)
-        (and_left (within 1 servers (message w k).sender) _ (and_left (valid_answer w k) _ e)) h
+        (first_so (within 1 servers (message w k).sender) _ (first_so (valid_answer w k) _ e)) h
     go false h = h
 
 -- a tally closes where there are enough answers of its view, with what is chosen of them: as the walk along the list does

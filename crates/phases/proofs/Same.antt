@@ -10,6 +10,8 @@ use Rattle.std.proofs.Math.Bool.{true, false}
 use Rattle.std.proofs.Math.Path.{refl, sym, ap}
 use mathlib.Core.List.{List, [], ◌∷◌, ◌++◌, append-nil}
 use Rattle.std.proofs.Math.Dec.{eqb}
+use Rattle.std.specs.Cmp.{first_so, second_so}
+use Rattle.std.proofs.lemmas.Bool.{and_from, not-true}
 use borrow.Author.Tests.{eqb-true, eq-eqb, ne_eqb, le-leb, lt-ltb, ltb-true}
 use Rattle.values.specs.declared.tally.Tally.{Tally}
 use Rattle.protocol.specs.declared.Choice.{Choice}
@@ -23,27 +25,28 @@ use Rattle.protocol.specs.Types.{Ending}
 use Rattle.protocol.specs.declared.View.{View}
 use Rattle.protocol.specs.Tools.{if, within, bit, all, nth, replace, done, guard}
 use Rattle.protocol.specs.Sizes.{clients, servers, views, messages, sized, write_size}
-use Rattle.protocol.specs.Entries.{chosen, count_of, writer_of, same, entry_fits}
+use Rattle.protocol.specs.Entries.{chosen, same, entry_fits}
 use Rattle.protocol.specs.Servers.{READ, WRITE, END, ANSWER, is_request}
 use Rattle.protocol.specs.Clients.{request_of, close, end_of}
 use Rattle.protocol.specs.Worlds.{World, view, client, message, newest, present}
 use Rattle.protocol.specs.Chains.{chain, enough, shown, agreed}
 use Rattle.protocol.specs.Steps.{moved, link, open?, at_once, closes, starts, takes, take}
 use Rattle.protocol.specs.Readable.{is_sent, ending_fits, kind_rule, phase_fits, client_range, client_fits, view_fits, last_view}
-use Rattle.protocol.specs.Readable.{sender_fits, tag_rule, is_asked, request_rule, next_fits, entry_zero, sent_fits, message_fits, taken_answer, ends, chain_fits}
-use Rattle.protocol.proofs.Laws.Formed.{Formed}
-use Rattle.protocol.proofs.Laws.Tests.{and_left, and_right, and_both, by_test, clash, within_true, is_within}
+use Rattle.protocol.specs.Readable.{sender_fits, tag_rule, is_asked, request_rule, next_fits, entry_zero, message_fits, taken_answer, ends, chain_fits}
+use Rattle.protocol.proofs.Laws.Formed.{Formed, SentParts, sent_parts}
+use Rattle.protocol.proofs.Laws.Tests.{by_test, clash, within_true, is_within}
 use Rattle.values.specs.Tallies.{choice}
-use Rattle.protocol.proofs.Laws.Worlds.{nth_same, nth_other}
+use Rattle.protocol.proofs.Laws.Worlds.{nth_same, nth_other, length_replace}
 use Rattle.codec.specs.Bytes.{zeros, half_le16, word_le32}
-use Rattle.codec.specs.Records.{entry_of, entry_bytes, entry_plain, view_of, view_bytes, message_of, message_bytes, message_plain}
-use Rattle.codec.specs.Records.{EntryFits, ViewFits, MessageFits, view_of_bytes, message_of_bytes, length_view_bytes, length_message_bytes}
+use Rattle.codec.specs.Records.{entry_of, entry_bytes, entry_plain, view_of, view_bytes, message_of, message_bytes, message_plain, entry_fits_lem}
+use Rattle.codec.specs.Records.{ViewFits, MessageFits, view_of_bytes, message_of_bytes, length_view_bytes, length_message_bytes}
 use Rattle.codec.specs.Spelling.{plain_view, plain_message}
 use Rattle.codec.specs.Layout.{entry_width, view_width, message_width}
 use Rattle.checked.specs.Rules.{take_rule}
 use Rattle.checked.specs.Ranges.{number_fits, message_in_range}
-use Rattle.codec.specs.Lists.{part, put, flat, length_flat, part_number, put_number, length_replace, length_list_to, nth_list_to, list_to_nth}
+use Rattle.codec.specs.Lists.{part, put, flat, length_flat, part_number, put_number, nth_list_to, list_to_nth}
 use Rattle.protocol.specs.Worlds.{list_to}
+use Rattle.protocol.proofs.Laws.Lists.{length_list_to}
 use Rattle.phases.specs.declared.phase_record.Head.{Head}
 use Rattle.phases.specs.Layout.{head_width, tally_width, tally_place, tallies_width, phase_width, asked_width}
 use Rattle.phases.specs.Records.{head_of, head_bytes, head_at, ended_fits, open_fits, head_fits, length_head_bytes}
@@ -75,59 +78,35 @@ verdict_list w r t ks e =
 
 -- ---- what a readable world says of a message that was sent
 
-record Parts (w : World) (m : Message) : Type 0 where
-  kind : within READ ANSWER m.kind ≡ true
-  sender : sender_fits m.kind m.sender ≡ true
-  tag : tag_rule (newest w) m.kind m.view.0 ≡ true
-  request : request_rule m (is_asked w m.request.0) ≡ true
-  next : next_fits m ≡ true
-  zero : entry_zero m ≡ true
-  entry : entry_fits m.entry ≡ true
-
-parts : (w : World) (n : ℕ) → Formed w → present w n ≡ true → Parts w (message w n)
-unfolding present message_fits sent_fits
+parts : (w : World) (n : ℕ) → Formed w → present w n ≡ true → SentParts w (message w n)
+unfolding present message_fits
 parts w n f p =
     let (l, u) = within_true 1 w.used n p in
     let i : n ≤ messages = omega (arith, f.full) in
-    let m : Message = message w n in
-    let s = rw (le-leb n w.used u) at (f.mail n l i) in
-    let s1 = and_right (within READ ANSWER m.kind) _ s in
-    let s2 = and_right (sender_fits m.kind m.sender) _ s1 in
-    let s3 = and_right (tag_rule (newest w) m.kind m.view.0) _ s2 in
-    let s4 = and_right (request_rule m (is_asked w m.request.0)) _ s3 in
-    let s5 = and_right (next_fits m) _ s4 in
-    record {
-      kind = and_left _ _ s;
-      sender = and_left _ _ s1;
-      tag = and_left _ _ s2;
-      request = and_left _ _ s3;
-      next = and_left _ _ s4;
-      zero = and_left _ _ s5;
-      entry = and_right (entry_zero m) _ s5;
-    }
+    sent_parts w (message w n) (rw (le-leb n w.used u) at (f.mail n l i))
 
 -- the answers of a chain are answers
 is_answerer : (w : World) (k : ℕ) → Formed w → present w k ≡ true → (message w k).kind ≡ ANSWER → valid_answer w k ≡ true
 is_answerer w k f p e =
     let h = parts w k f p in
-    and_both (within 1 servers (message w k).sender) _ (rw e at h.sender) h.entry
+    and_from (within 1 servers (message w k).sender) _ (rw e at h.sender) h.entry
 
 all_answerers : (w : World) (r : ℕ) (ks : List ℕ) → Formed w → all (taken_answer w r) ks ≡ true → all (valid_answer w) ks ≡ true
 unfolding all taken_answer
 all_answerers w r [] f e = refl
 all_answerers w r (k ∷ ks) f e =
-    let a = and_left (taken_answer w r k) _ e in
-    let b = and_right (present w k) _ a in
-    and_both (valid_answer w k) _ (is_answerer w k f (and_left (present w k) _ a) (eqb-true (message w k).kind ANSWER (and_left (eqb (message w k).kind ANSWER) _ b)))
-    (all_answerers w r ks f (and_right (taken_answer w r k) _ e))
+    let a = first_so (taken_answer w r k) _ e in
+    let b = second_so (present w k) _ a in
+    and_from (valid_answer w k) _ (is_answerer w k f (first_so (present w k) _ a) (eqb-true (message w k).kind ANSWER (first_so (eqb (message w k).kind ANSWER) _ b)))
+    (all_answerers w r ks f (second_so (taken_answer w r k) _ e))
 
 chain_answerers : (w : World) (r : ℕ) → Formed w → is_asked w r ≡ true → all (valid_answer w) (chain w r) ≡ true
 unfolding chain_fits present
 chain_answerers w r f e =
-    let (l, u) = within_true 1 w.used r (and_left (present w r) _ e) in
-    let q = and_right (present w r) _ e in
+    let (l, u) = within_true 1 w.used r (first_so (present w r) _ e) in
+    let q = second_so (present w r) _ e in
     let c = rw q at (f.chained r l u) in
-    all_answerers w r (chain w r) f (and_left (all (taken_answer w r) (chain w r)) _ (and_right (ends w r) _ c))
+    all_answerers w r (chain w r) f (first_so (all (taken_answer w r) (chain w r)) _ (second_so (ends w r) _ c))
 
 -- ---- the step that takes an answer, in a readable world
 
@@ -144,21 +123,17 @@ record MayBeTaken (w : World) (k r : ℕ) : Type 0 where
 taking_of : (w : World) (k : ℕ) → Formed w → present w k && eqb (message w k).kind ANSWER ≡ true
     → not (message w k).taken && open? w (message w k).request.0 ≡ true → MayBeTaken w k (message w k).request.0
 taking_of w k f a b =
-    let p = and_left (present w k) _ a in
-    let e : (message w k).kind ≡ ANSWER = eqb-true (message w k).kind ANSWER (and_right (present w k) _ a) in
+    let p = first_so (present w k) _ a in
+    let e : (message w k).kind ≡ ANSWER = eqb-true (message w k).kind ANSWER (second_so (present w k) _ a) in
     record {
       formed = f;
       sent = p;
       answers = e;
-      untaken = not_back (message w k).taken (and_left _ _ b);
+      untaken = not-true (message w k).taken (first_so _ _ b);
       named = refl;
       asked = rw (eq-eqb (message w k).kind ANSWER e) at (parts w k f p).request;
-      is_open = and_right (not (message w k).taken) _ b;
+      is_open = second_so (not (message w k).taken) _ b;
     }
-  where
-    not_back : (x : Bool) → not x ≡ true → x ≡ false
-    not_back true h = clash refl (sym h)
-    not_back false h = refl
 
 -- "while ending, newest is below 32 ..., and the END is that of newest"
 end_view : (w : World) (r : ℕ) (x : Ending) → ending_fits w x ≡ true → eqb (end_of x) r ≡ true → 1 ≤ r
@@ -166,8 +141,8 @@ end_view : (w : World) (r : ℕ) (x : Ending) → ending_fits w x ≡ true → e
 end_view w r None e h l = absurd (omega (arith, eqb-true 0 r h))
 end_view w r (Some n) e h l =
     let q : n.0 ≡ r = eqb-true n.0 r h in
-    let s = and_right (is_sent w n.0 END 0) _ (and_right (ltb (newest w) views) _ e) in
-    (rw q at (eqb-true (message w n.0).view.0 (newest w) s), ltb-true (newest w) views (and_left _ _ e))
+    let s = second_so (is_sent w n.0 END 0) _ (second_so (ltb (newest w) views) _ e) in
+    (rw q at (eqb-true (message w n.0).view.0 (newest w) s), ltb-true (newest w) views (first_so _ _ e))
 
 -- "open phases ... name a message of the right kind"
 data KindWaits (kind : ℕ) (p : Phase) : Type 0 where
@@ -179,13 +154,13 @@ unfolding is_sent
 kind_waits w c r a Idle e h l = absurd (omega (arith, eqb-true 0 r h))
 kind_waits w c r a (Reading n) e h l =
     let q : n.0 ≡ r = eqb-true n.0 r h in
-    let s = and_left (is_sent w n.0 READ c) _ (and_right (kind_rule a.kind) _ e) in
-    let k = and_left (eqb (message w n.0).kind READ) _ (and_right (present w n.0) _ s) in
+    let s = first_so (is_sent w n.0 READ c) _ (second_so (kind_rule a.kind) _ e) in
+    let k = first_so (eqb (message w n.0).kind READ) _ (second_so (present w n.0) _ s) in
     reads (rw q at (eqb-true (message w n.0).kind READ k)) n refl
 kind_waits w c r a (Writing n) e h l =
     let q : n.0 ≡ r = eqb-true n.0 r h in
-    let s = and_left (is_sent w n.0 WRITE c) _ (and_right (kind_rule a.kind) _ e) in
-    let k = and_left (eqb (message w n.0).kind WRITE) _ (and_right (present w n.0) _ s) in
+    let s = first_so (is_sent w n.0 WRITE c) _ (second_so (kind_rule a.kind) _ e) in
+    let k = first_so (eqb (message w n.0).kind WRITE) _ (second_so (present w n.0) _ s) in
     writes (rw q at (eqb-true (message w n.0).kind WRITE k)) n refl
 
 -- for a WRITE phase it makes no difference whether the answers carry one entry
@@ -223,10 +198,10 @@ module _ (w : World) (k r t : ℕ) (q : (message w k).request.0 ≡ r) (a : all 
 
 module _ (w : World) (r : ℕ) (f : Formed w) (a : is_asked w r ≡ true) (o : open? w r ≡ true) where
   r_sent : present w r ≡ true
-  r_sent = and_left (present w r) _ a
+  r_sent = first_so (present w r) _ a
 
   r_kind : is_request (message w r).kind ≡ true
-  r_kind = and_right (present w r) _ a
+  r_kind = second_so (present w r) _ a
 
   r_low : 1 ≤ r
   unfolding present
@@ -262,8 +237,8 @@ module _ (w : World) (r : ℕ) (f : Formed w) (a : is_asked w r ≡ true) (o : o
   r_open : open_fits (head_in w r) ≡ true
   unfolding open_fits number_fits
   r_open =
-      and_both (within READ END (message w r).kind) _ r_kind
-      (and_both (ended_fits (message w r).kind (message w r).view.0) _ r_ended_fits (is_within 1 messages r r_low r_high))
+      and_from (within READ END (message w r).kind) _ r_kind
+      (and_from (ended_fits (message w r).kind (message w r).view.0) _ r_ended_fits (is_within 1 messages r r_low r_high))
 
   r_head : head_fits (head_in w r) ≡ true
   unfolding head_fits
@@ -275,7 +250,7 @@ module _ (w : World) (r : ℕ) (f : Formed w) (a : is_asked w r ≡ true) (o : o
 module _ (w : World) (k r : ℕ) (h : MayBeTaken w k r) where
   with_answerers : all (valid_answer w) (k ∷ chain w r) ≡ true
   unfolding all
-  with_answerers = and_both (valid_answer w k) _ (is_answerer w k h.formed h.sent h.answers) (chain_answerers w r h.formed h.asked)
+  with_answerers = and_from (valid_answer w k) _ (is_answerer w k h.formed h.sent h.answers) (chain_answerers w r h.formed h.asked)
 
   r_waits : eqb (message w r).kind END ≡ false → KindWaits (message w r).kind (client w (message w r).sender).phase
   unfolding open? client_fits
@@ -284,7 +259,7 @@ module _ (w : World) (k r : ℕ) (h : MayBeTaken w k r) where
       let s = rw (le-leb (message w r).kind WRITE (not_end w r h.formed h.asked h.is_open e)) at (parts w r h.formed (r_sent w r h.formed h.asked h.is_open)).sender in
       let (l, u) = within_true 1 clients c s in
       let o : eqb (request_of (client w c).phase) r ≡ true = rw e at h.is_open in
-      kind_waits w c r (client w c) (client w c).phase (and_right (client_range (client w c)) _ (h.formed.client c l u)) o (r_low w r h.formed h.asked h.is_open)
+      kind_waits w c r (client w c) (client w c).phase (second_so (client_range (client w c)) _ (h.formed.client c l u)) o (r_low w r h.formed h.asked h.is_open)
 
   take_carried : takes w k r (message w k).view.0 ≡ carried w k r (verdict_of w r (message w k).view.0 (k ∷ chain w r))
   take_carried =
@@ -305,16 +280,10 @@ head_back : (h : Head) (g : ℕ → Tally) → h.request.0 < 2 ^ 16 → head_at 
 unfolding head_at head_of phase_bytes head_bytes part
 head_back h g l = simp (half_le16 h.request.0 l)
 
-entry_low : (e : Entry) → entry_fits e ≡ true → EntryFits e
-unfolding entry_fits
-entry_low e p =
-    let q = and_right (ltb (count_of e) (2 ^ 32)) _ p in
-    record { count = ltb-true (count_of e) (2 ^ 32) (and_left _ _ p); value = ltb-true e.value (2 ^ 32) (and_right (leb (writer_of e) clients) _ q) }
-
 tally_back : (a : Tally) → TallyStorable a → tally_read (tally_bytes a) ≡ a
 unfolding tally_read tally_bytes part entry_bytes entry_of
 tally_back a s =
-    let e = entry_low a.best s.fits in
+    let e = entry_fits_lem a.best s.fits in
     simp (word_le32 _ s.small, word_le32 _ e.count, word_le32 _ e.value, flag_back)
   where
     flag_back : (b : Bool) → eqb (bit (not b)) 0 ≡ b
@@ -332,7 +301,7 @@ tally_clean a = go a.one
 tally_obeys : (a : Tally) → TallyStorable a → tally_rule a ≡ true
 unfolding tally_rule same
 tally_obeys a s =
-    and_both (entry_fits a.best) _ s.fits
+    and_from (entry_fits a.best) _ s.fits
     (by_test (eqb a.seen.0 0)
     (λ z. let (p, q) = s.quiet (eqb-true a.seen.0 0 z) in rw (z, p, q) refl)
     (λ z. rw z refl))
@@ -375,7 +344,7 @@ unfolding asked_plain
 asked_clean m v f g =
     let (a, b) = asked_parts m v in
     rw (a, b)
-    (and_both (message_plain (message_bytes m)) _ (plain_message (message_bytes m) (ap message_bytes (message_of_bytes m f)))
+    (and_from (message_plain (message_bytes m)) _ (plain_message (message_bytes m) (ap message_bytes (message_of_bytes m f)))
     (plain_view (view_bytes v) (ap view_bytes (view_of_bytes v g))))
 
 module _ (w : World) (k r : ℕ) (h : MayBeTaken w k r) where
@@ -406,12 +375,12 @@ module _ (w : World) (k r : ℕ) (h : MayBeTaken w k r) where
       record {
         request = omega (arith, h.named, r_high w r h.formed h.asked h.is_open);
         next = omega (arith, k_next);
-        entry = entry_low (message w k).entry (parts w k h.formed h.sent).entry;
+        entry = entry_fits_lem (message w k).entry (parts w k h.formed h.sent).entry;
       }
 
   v_fits : ViewFits (view w (message w k).view.0)
   unfolding sized
-  v_fits = record { members = ltb-true (view w (message w k).view.0).members.0 (2 ^ 32) (and_left _ _ t_sized) }
+  v_fits = record { members = ltb-true (view w (message w k).view.0).members.0 (2 ^ 32) (first_so _ _ t_sized) }
 
   k_range : message_in_range (message w k) ≡ true
   unfolding message_in_range number_fits
@@ -420,12 +389,12 @@ module _ (w : World) (k r : ℕ) (h : MayBeTaken w k r) where
       let p = parts w k h.formed h.sent in
       let n : m.next.0 ≤ messages = omega (arith, k_next) in
       let q : within 1 messages m.request.0 ≡ true = rw h.named (is_within 1 messages r (r_low w r h.formed h.asked h.is_open) (r_high w r h.formed h.asked h.is_open)) in
-      and_both (leb m.next.0 messages) _ (le-leb m.next.0 messages n)
-      (and_both (within READ ANSWER m.kind) _ p.kind
-      (and_both (sender_fits m.kind m.sender) _ p.sender
-      (and_both (tag_rule views m.kind m.view.0) _ (rw h.answers (is_within 1 views m.view.0 t_low t_high))
-      (and_both (request_rule m (within 1 messages m.request.0)) _ (rw h.answers q)
-      (and_both (next_fits m) _ p.next (and_both (entry_zero m) _ p.zero p.entry))))))
+      and_from (leb m.next.0 messages) _ (le-leb m.next.0 messages n)
+      (and_from (within READ ANSWER m.kind) _ p.kind
+      (and_from (sender_fits m.kind m.sender) _ p.sender
+      (and_from (tag_rule views m.kind m.view.0) _ (rw h.answers (is_within 1 views m.view.0 t_low t_high))
+      (and_from (request_rule m (within 1 messages m.request.0)) _ (rw h.answers q)
+      (and_from (next_fits m) _ p.next (and_from (entry_zero m) _ p.zero p.entry))))))
 
   -- ---- the record of the answers taken so far, and one more
 
@@ -447,7 +416,7 @@ module _ (w : World) (k r : ℕ) (h : MayBeTaken w k r) where
       let t : ℕ = (message w k).view.0 in
       let z : eqb t 0 ≡ false = ne_eqb t 0 (λ e. absurd (omega (arith, t_low))) in
       rw (z, part_tally (head_in w r) (λ s. tally_in w s (chain w r)) t t_low t_high, tally_is)
-      (and_both (tally_plain (tally_bytes (tally_in w t (chain w r)))) _ (tally_clean (tally_in w t (chain w r)))
+      (and_from (tally_plain (tally_bytes (tally_in w t (chain w r)))) _ (tally_clean (tally_in w t (chain w r)))
       (tally_obeys (tally_in w t (chain w r)) (chain_sound_lem t)))
 
   may_take_lem : may_take (record_of w r (chain w r)) (message w k) (view w (message w k).view.0) ≡ done (message w k)

@@ -2,6 +2,7 @@
 -- of the calls.
 use Rattle.std.specs.Prelude.{ℕ, ◌+◌, ◌≤◌, Bool, true, false, not, ◌&&◌, ◌≡◌, refl, List, leb, eqb, Option, Ok}
 use Rattle.std.proofs.Common.{arith, ap, ◌∙◌, eqb-true}
+use Rattle.std.specs.Cmp.{first_so, second_so}
 use Rattle.protocol.specs.declared.Choice.{Choice}
 use Rattle.protocol.specs.declared.Message.{Message}
 use Rattle.protocol.specs.declared.View.{View}
@@ -9,7 +10,7 @@ use Rattle.protocol.specs.Tools.{within, Result, refused, done, guard, then, num
 use Rattle.protocol.specs.Sizes.{views, messages, sized}
 use Rattle.protocol.specs.Servers.{READ, ANSWER}
 use Rattle.protocol.specs.Readable.{sender_fits, tag_rule}
-use Rattle.protocol.proofs.Laws.Tests.{and_left, and_right, within_true}
+use Rattle.protocol.proofs.Laws.Tests.{within_true}
 use Rattle.checked.specs.Ranges.{message_in_range}
 use Rattle.checked.specs.Rules.{take_rule}
 use Rattle.phases.specs.Records.{head_at}
@@ -35,8 +36,8 @@ module _ (m : Message) (r : ℕ) where
       let (a, f) = zero_rest (message_in_range m && leb r messages) 2 _ e in
       let (b, g) = zero_rest (eqb m.kind ANSWER) 4 _ f in
       let k : m.kind ≡ ANSWER = eqb-true m.kind ANSWER b in
-      let o = and_right (leb m.next.0 messages) _ (and_left _ (leb r messages) a) in
-      let q = and_left (tag_rule views m.kind m.view.0) _ (and_right (sender_fits m.kind m.sender) _ (and_right (within READ ANSWER m.kind) _ o)) in
+      let o = second_so (leb m.next.0 messages) _ (first_so _ (leb r messages) a) in
+      let q = first_so (tag_rule views m.kind m.view.0) _ (second_so (sender_fits m.kind m.sender) _ (second_so (within READ ANSWER m.kind) _ o)) in
       within_true 1 views m.view.0 (rw k at q)
 
 module _ (p : List ℕ) (m : Message) (v : View) where

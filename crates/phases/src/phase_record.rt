@@ -1,6 +1,7 @@
 // The record of a phase as bytes: its head and its tallies, read, written, and their ranges tested.
 // A number in range stays a number: a type for it would be made and taken apart at each call, with the same goal.
-ghost use Rattle.std.specs.Prelude.{◌≡◌, ◌+◌, ◌≤◌};
+ghost use Rattle.std.specs.Prelude.{◌≡◌, ◌+◌, ◌≤◌, eqb};
+ghost use Rattle.protocol.specs.Kinds.{message_code};
 ghost use Rattle.protocol.specs.Sizes.{views};
 ghost use Rattle.codec.specs.Lists.{part, put};
 ghost use Rattle.phases.specs.Layout.{tally_place, tally_width};
@@ -25,6 +26,15 @@ pub struct Head {
     pub kind: u8,
     pub view: ViewNumber,
     pub request: MessageNumber,
+}
+
+impl Head {
+    // Whether the request is of that kind; as of a message.
+    pub fn is(self, kind: MessageKind) -> bool
+        ensures { result ≡ eqb self.kind (message_code kind) }
+    {
+        self.kind == u8::from(kind)
+    }
 }
 
 // The head of a record.

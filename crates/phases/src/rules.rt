@@ -31,11 +31,10 @@ pub fn count_answer(a: Tally, m: Message) -> Tally
 }
 
 // How many servers close a phase: READ the read size, WRITE and END the write size.
-// The kind is the number of the record, which holds READ, WRITE or END.
-fn size_by(kind: u8, v: View) -> u32
-    ensures { result ≡ size_by kind v }
+fn size_by(h: Head, v: View) -> u32
+    ensures { result ≡ size_by h.kind v }
 {
-    if kind == u8::from(MessageKind::Read) {
+    if h.is(MessageKind::Read) {
         sizes::read_size(v)
     } else {
         sizes::write_size(v)
@@ -46,15 +45,14 @@ fn size_by(kind: u8, v: View) -> u32
 fn counts(h: Head, t: ViewNumber) -> bool
     ensures { result ≡ counts h t.0 }
 {
-    h.kind != u8::from(MessageKind::End) || t == h.view
+    !h.is(MessageKind::End) || t == h.view
 }
 
 // Whether a read may end with its READ phase.
-// The kind is the number of the record.
-fn may_end(kind: u8, one: bool, v: View) -> bool
-    ensures { result ≡ may_end kind one v }
+fn may_end(h: Head, one: bool, v: View) -> bool
+    ensures { result ≡ may_end h.kind one v }
 {
-    kind == u8::from(MessageKind::Read) && sizes::at_once(one, v)
+    h.is(MessageKind::Read) && sizes::at_once(one, v)
 }
 
 // Whether the answers of view t, which is v, close what is open.
@@ -65,9 +63,9 @@ pub fn record_closes(h: Head, a: Tally, t: ViewNumber, v: View) -> Option<Choice
     if !counts(h, t) {
         return None;
     }
-    let x = tally::closes(a, size_by(h.kind, v))?;
+    let x = tally::closes(a, size_by(h, v))?;
     Some(Choice {
-        one: may_end(h.kind, x.one, v),
+        one: may_end(h, x.one, v),
         ..x
     })
 }

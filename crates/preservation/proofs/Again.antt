@@ -6,6 +6,8 @@ use Rattle.std.proofs.Math.Decide.{ℕ_discrete}
 use Rattle.std.proofs.Math.Bool.{true}
 use Rattle.std.proofs.Math.Path.{refl, sym, ap, subst}
 use Rattle.std.proofs.Math.ListN.{length-set}
+use Rattle.std.specs.Cmp.{first_so, second_so}
+use Rattle.std.proofs.lemmas.Bool.{and_from, cases_Bool, or_left, or_right}
 use borrow.Author.Tests.{leb-false, eqb-true, lt-leb, eq-eqb, ne_eqb, not-true}
 use Rattle.protocol.specs.declared.MessageNumber.{MessageNumber}
 use Rattle.protocol.specs.declared.Message.{Message}
@@ -17,10 +19,12 @@ use Rattle.protocol.specs.Worlds.{World, no_message, view, message, newest, pres
 use Rattle.protocol.specs.Chains.{follow, chain, tagged, heard, enough}
 use Rattle.protocol.specs.Steps.{moved, link, open?, takes, take}
 use Rattle.protocol.specs.Readable.{taken_answer, distinct}
-use Rattle.protocol.proofs.Laws.Tests.{and_left, and_right, and_both, by_bool, clash, is_within, count_le, or_first, or_second}
+use Rattle.protocol.proofs.Laws.Tests.{clash, is_within}
 use Rattle.protocol.proofs.Laws.Worlds.{content, sent, message_same, message_other, sent_with, message_as, count_as}
-use Rattle.protocol.proofs.Laws.Sound.{not_answer, link_count, link_other}
-use Rattle.preservation.proofs.Chained.{all_member, count_more, pigeons, follow_step}
+use Rattle.protocol.proofs.Laws.Sound.{not_answer, link_count, link_other, length_with}
+use Rattle.protocol.proofs.Laws.Counts.{count_le}
+use Rattle.protocol.proofs.Laws.Lists.{all_member}
+use Rattle.preservation.proofs.Chained.{count_more, pigeons, follow_step}
 use Rattle.preservation.specs.Links.{Is}
 use Rattle.preservation.proofs.Links.{taken_is, is_taken_lem, answers_fit_lem}
 use Rattle.preservation.proofs.Unclosed.{enough_on}
@@ -55,7 +59,7 @@ unfolding follow leads
 follow_leads w zero zero e = refl
 follow_leads w zero (suc n) e = absurd (omega arith)
 follow_leads w (suc left) zero e = refl
-follow_leads w (suc left) (suc n) e = and_both _ _ (eq-eqb (suc n) (suc n) refl) (follow_leads w left (message w (suc n)).next.0 (omega arith))
+follow_leads w (suc left) (suc n) e = and_from _ _ (eq-eqb (suc n) (suc n) refl) (follow_leads w left (message w (suc n)).next.0 (omega arith))
 
 leads_follow : (w : World) (r left n : ℕ) (ks : List ℕ) → leads w n ks ≡ true → all (taken_answer w r) ks ≡ true → length ks ≤ left → follow w left n ≡ ks
 unfolding follow leads all
@@ -63,21 +67,21 @@ leads_follow w r zero n [] e a l = refl
 leads_follow w r zero n (k ∷ ks) e a l = absurd (omega arith)
 leads_follow w r (suc left) n [] e a l = ap (λ (x : ℕ). follow w (suc left) x) (eqb-true n 0 e)
 leads_follow w r (suc left) n (k ∷ ks) e a l =
-    ap (λ (x : ℕ). follow w (suc left) x) (eqb-true n k (and_left _ _ e)) ∙ follow_step w left k (taken_is w r k (and_left _ _ a)).low
-    ∙ ap (λ (x : List ℕ). k ∷ x) (leads_follow w r left (message w k).next.0 ks (and_right (eqb n k) _ e) (and_right (taken_answer w r k) _ a) (omega arith))
+    ap (λ (x : ℕ). follow w (suc left) x) (eqb-true n k (first_so _ _ e)) ∙ follow_step w left k (taken_is w r k (first_so _ _ a)).low
+    ∙ ap (λ (x : List ℕ). k ∷ x) (leads_follow w r left (message w k).next.0 ks (second_so (eqb n k) _ e) (second_so (taken_answer w r k) _ a) (omega arith))
 
 -- links that are as they were lead on
 pub leads_on : (w v : World) (p : ℕ → Bool) → ((k : ℕ) → p k ≡ true → (message v k).next ≡ (message w k).next) → (n : ℕ) (ks : List ℕ) → all p ks ≡ true → leads w n ks ≡ true → leads v n ks ≡ true
 unfolding leads all
 leads_on w v p f n [] a e = e
 leads_on w v p f n (k ∷ ks) a e =
-    and_both _ _ (and_left (eqb n k) _ e)
-    (subst (λ (m : MessageNumber). leads v m.0 ks ≡ true) (sym (f k (and_left _ _ a))) (leads_on w v p f (message w k).next.0 ks (and_right (p k) _ a) (and_right (eqb n k) _ e)))
+    and_from _ _ (first_so (eqb n k) _ e)
+    (subst (λ (m : MessageNumber). leads v m.0 ks ≡ true) (sym (f k (first_so _ _ a))) (leads_on w v p f (message w k).next.0 ks (second_so (p k) _ a) (second_so (eqb n k) _ e)))
 
 pub all_own : (p : ℕ → Bool) (ks : List ℕ) → ((j : ℕ) → any (eqb j) ks ≡ true → p j ≡ true) → all p ks ≡ true
 unfolding all any
 all_own p [] f = refl
-all_own p (k ∷ ks) f = and_both _ _ (f k (or_first _ _ (eq-eqb k k refl))) (all_own p ks (λ j m. f j (or_second (eqb j k) _ m)))
+all_own p (k ∷ ks) f = and_from _ _ (f k (or_left _ _ (eq-eqb k k refl))) (all_own p ks (λ j m. f j (or_right (eqb j k) _ m)))
 
 -- ---- one answer fewer
 
@@ -116,10 +120,6 @@ take_open : (w : World) (k r : ℕ) → (present w k && eqb (message w k).kind A
 unfolding take takes open? guard
 take_open w k r p f q i o n = rw (p, f, q, eq-eqb (message w r).kind END i, eq-eqb _ _ o, n) refl
 
-count_with : (w : World) (k : ℕ) (m : Message) {n : ℕ} → n < length w.message_list → n < length (with_message w k m).message_list
-unfolding with_message
-count_with w k m l = omega (arith, length-set w.message_list k m)
-
 -- the answer that was taken, and its request
 link_first : (w : World) (k r : ℕ) → (message w k).request.0 ≡ r → k ≢ r → k < length w.message_list
     → message (link w k) k ≡ record {
@@ -136,7 +136,7 @@ link_first w k r q n l = rw q (message_other (with_message w k _) r _ k n ∙ me
 
 link_second : (w : World) (k r : ℕ) → (message w k).request.0 ≡ r → r < length w.message_list → message (link w k) r ≡ leading (message w r) (number k)
 unfolding link
-link_second w k r q l = rw q (message_same (with_message w k _) r _ (count_with w k _ l))
+link_second w k r q l = rw q (message_same (with_message w k _) r _ (length_with w k _ l))
 
 -- w before the answer k, its newest, was taken
 module _ {w : World} {r k : ℕ} {ks : List ℕ} (h : Part w r (k ∷ ks)) where
@@ -145,7 +145,7 @@ module _ {w : World} {r k : ℕ} {ks : List ℕ} (h : Part w r (k ∷ ks)) where
 
   is_k : Is w r k
   unfolding all
-  is_k = taken_is w r k (and_left _ _ h.only)
+  is_k = taken_is w r k (first_so _ _ h.only)
 
   is_request_lem : is_request (message w r).kind ≡ true
   is_request_lem = ap (λ (x : ℕ). is_request x) h.is
@@ -178,8 +178,8 @@ module _ {w : World} {r k : ℕ} {ks : List ℕ} (h : Part w r (k ∷ ks)) where
   rest : (j : ℕ) → any (eqb j) ks ≡ true → (j ≢ k) × Is w r j
   unfolding all distinct any
   rest j m = (
-    λ e. clash m (subst (λ (x : ℕ). any (eqb x) ks ≡ false) (sym e) (not-true _ (and_left _ _ h.once))),
-    taken_is w r j (all_member (taken_answer w r) ks j (and_right (taken_answer w r k) _ h.only) m),
+    λ e. clash m (subst (λ (x : ℕ). any (eqb x) ks ≡ false) (sym e) (not-true _ (first_so _ _ h.once))),
+    taken_is w r j (all_member (taken_answer w r) ks j (second_so (taken_answer w r k) _ h.only) m),
   )
 
   back_rest : (j : ℕ) → any (eqb j) ks ≡ true → message back j ≡ message w j
@@ -210,7 +210,7 @@ module _ {w : World} {r k : ℕ} {ks : List ℕ} (h : Part w r (k ∷ ks)) where
   back_path =
       subst (λ (m : Message). leads back m.next.0 ks ≡ true) (sym back_request)
       (leads_on w back (λ j. any (eqb j) ks) (λ j m. ap (λ (x : Message). x.next) (back_rest j m)) (message w k).next.0 ks (all_own (λ j. any (eqb j) ks) ks (λ j m. m))
-      (and_right (eqb (message w r).next.0 k) _ h.path))
+      (second_so (eqb (message w r).next.0 k) _ h.path))
 
   back_enough : (js : List ℕ) → enough back (newest w) js (write_size (view w (newest w))) ≡ enough w (newest w) js (write_size (view w (newest w)))
   back_enough js = enough_on w back (newest w) _ (λ j. true) (λ j _. back_sent j) js (all_own (λ j. true) js (λ j _. refl))
@@ -228,7 +228,7 @@ module _ {w : World} {r k : ℕ} {ks : List ℕ} (h : Part w r (k ∷ ks)) where
         ending = h.ending;
         path = back_path;
         only = back_only;
-        once = and_right (not (any (eqb k) ks)) _ h.once;
+        once = second_so (not (any (eqb k) ks)) _ h.once;
         few = back_enough ks ∙ enough_fewer w (newest w) _ k ks h.few;
       }
 
@@ -255,7 +255,7 @@ module _ {w : World} {r k : ℕ} {ks : List ℕ} (h : Part w r (k ∷ ks)) where
   chain_back : chain back r ≡ ks
   unfolding chain distinct
   chain_back =
-      let o = and_right (not (any (eqb k) ks)) _ h.once in
+      let o = second_so (not (any (eqb k) ks)) _ h.once in
       leads_follow back r messages (message back r).next.0 ks back_path back_only
       (omega (arith, h.full, back_used, pigeons ks back.used o (answers_fit_lem back r ks back_only), count_le (λ i. any (eqb i) ks) back.used))
 
@@ -264,7 +264,7 @@ module _ {w : World} {r k : ℕ} {ks : List ℕ} (h : Part w r (k ∷ ks)) where
   back_asks = ap (λ (m : Message). m.request.0) back_answer ∙ is_k.request
 
   few_still : (t : ℕ) → (eqb t (newest w) && enough back t (k ∷ chain back r) (write_size (view w t))) ≡ false
-  few_still t = rw chain_back (go (by_bool (eqb t (newest w))))
+  few_still t = rw chain_back (go (cases_Bool (eqb t (newest w))))
     where
       go : (eqb t (newest w) ≡ true) ⊎ (eqb t (newest w) ≡ false) → (eqb t (newest w) && enough back t (k ∷ ks) (write_size (view w t))) ≡ false
       go (inl e) =
@@ -279,12 +279,12 @@ module _ {w : World} {r k : ℕ} {ks : List ℕ} (h : Part w r (k ∷ ks)) where
   unfolding content present
   take_back =
       take_open back k r
-      (and_both _ _ (is_within 1 back.used k is_k.low (omega (arith, is_k.below, back_used))) (eq-eqb _ _ (ap (λ (m : Message). m.kind) back_answer ∙ is_k.is)))
+      (and_from _ _ (is_within 1 back.used k is_k.low (omega (arith, is_k.below, back_used))) (eq-eqb _ _ (ap (λ (m : Message). m.kind) back_answer ∙ is_k.is)))
       (ap (λ (m : Message). m.taken) back_answer) back_asks back_part.is back_part.ending (open_still (message back k).view.0)
 
   first : (message w r).next.0 ≡ k
   unfolding leads
-  first = eqb-true _ _ (and_left _ _ h.path)
+  first = eqb-true _ _ (first_so _ _ h.path)
 
   linked_each : (i : ℕ) → message (link back k) i ≡ message w i
   unfolding content

@@ -4,7 +4,7 @@ use Rattle.std.proofs.Common.{arith, ap, subst, ◌∙◌}
 use Rattle.std.proofs.Math.Bool.{true}
 use Rattle.std.proofs.Math.Path.{refl}
 use Rattle.protocol.specs.declared.View.{View}
-use Rattle.protocol.specs.Tools.{bit_of, Result, refused, done, passed}
+use Rattle.protocol.specs.Tools.{bit_of, Result, refused, done, passed, same_done}
 use Rattle.protocol.specs.Sizes.{servers, clients, views, messages, sized, view_with}
 use Rattle.protocol.specs.Entries.{same, entry_fits}
 use Rattle.protocol.specs.Worlds.{World, no_message, server, fresh_world, fresh}
@@ -70,15 +70,12 @@ fresh_formed v z =
       chained = λ r l u. absurd (omega (arith, fresh_used v));
     }
 
-is_done : {A : Type 0} {x y : A} → done x ≡ done y → x ≡ y
-is_done e = cc
-
 -- A fresh world that is not refused is readable.
 pub fresh_kept : (members f r : ℕ) (w : World) → fresh members f r ≡ done w → well_formed w ≡ true
 unfolding fresh
 fresh_kept members f r w e =
     let (z, d) = passed _ _ _ _ e in
-    subst (λ (x : World). well_formed x ≡ true) (is_done d) (well_formed_lem _ (fresh_formed (view_with members f r) z))
+    subst (λ (x : World). well_formed x ≡ true) (same_done d) (well_formed_lem _ (fresh_formed (view_with members f r) z))
 
 -- So is what any bytes for a step leave.
 pub left_kept : (w : World) → well_formed w ≡ true → (b : List ℕ) → well_formed (left w (step_bytes w b)) ≡ true

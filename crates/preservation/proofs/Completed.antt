@@ -2,6 +2,7 @@
 use Rattle.std.specs.Prelude.{ℕ, ◌+◌, Bool, true, false, ◌&&◌, ◌≡◌, eqb, Option, None, Some}
 use Rattle.std.proofs.Common.{arith, eqb-true, le-leb}
 use Rattle.std.proofs.lemmas.Bool.{eqb-false}
+use Rattle.std.specs.Cmp.{first_so, second_so}
 use Rattle.protocol.specs.declared.Shown.{Shown}
 use Rattle.protocol.specs.declared.Server.{Server}
 use Rattle.protocol.specs.declared.Step.{Step}
@@ -16,10 +17,11 @@ use Rattle.protocol.specs.Clients.{WRITES, READS, begin, give_up, close_size, cl
 use Rattle.protocol.specs.Worlds.{World, view, newest, server, client, message, member, present, room, with_client, with_administrator, next_number}
 use Rattle.protocol.specs.Steps.{After, moved, source?, link, taken_with, begins, answers, deliver, closes, starts, takes, take, fault, lie, new_view, emptied, planned, restarts, gives_up, perform, step, view_step, give_up_step, view_asked}
 use Rattle.protocol.specs.Readable.{well_formed}
-use Rattle.protocol.proofs.Laws.Tests.{and_left, and_right, within_true}
+use Rattle.protocol.proofs.Laws.Tests.{within_true}
 use Rattle.protocol.proofs.Laws.Formed.{Formed, formed}
+use Rattle.protocol.proofs.Laws.Moves.{present_is}
 use Rattle.preservation.proofs.Outcomes.{Yields, yields_done, yields_guard, yields_then, yields_if, yields_moved, yields_room}
-use Rattle.preservation.proofs.Updates.{present_is, request_of_lem}
+use Rattle.preservation.proofs.Updates.{request_of_lem}
 use Rattle.preservation.proofs.Kept.{mailed}
 use Rattle.preservation.specs.Completed.{Told, nobody, who}
 
@@ -80,10 +82,10 @@ take_tells : {w : World} → Formed w → (k : ℕ) → Tells (take w k)
 unfolding take
 take_tells {w} h k =
     yields_guard _ _ _ (λ p. yields_guard _ _ _ (λ o.
-    let (l, u) = present_is w k (and_left _ _ p) in
-    let q = request_of_lem h k l u (eqb-true _ _ (and_right (present w k) _ p)) in
+    let (l, u) = present_is w k (first_so _ _ p) in
+    let q = request_of_lem h k l u (eqb-true _ _ (second_so (present w k) _ p)) in
     takes_tells w k (message w k).request.0 (message w k).view.0
-    (asker h (message w k).request.0 (and_left _ _ q) (and_right (present w (message w k).request.0) _ q))))
+    (asker h (message w k).request.0 (first_so _ _ q) (second_so (present w (message w k).request.0) _ q))))
 
 fault_tells : (w : World) (s : ℕ) → Tells (fault w s)
 unfolding fault

@@ -6,6 +6,8 @@ use Rattle.std.proofs.Math.Bool.{true, false}
 use Rattle.std.proofs.Math.Path.{refl, ap, subst}
 use mathlib.Core.List.{List, [], ◌∷◌, ◌++◌}
 use Rattle.std.proofs.Math.Dec.{eqb}
+use Rattle.std.specs.Cmp.{first_so, second_so}
+use Rattle.std.proofs.lemmas.Bool.{cases_Bool}
 use borrow.Author.Tests.{eqb-true, eq-eqb}
 use Rattle.protocol.specs.declared.MessageNumber.{MessageNumber}
 use Rattle.protocol.specs.declared.Entry.{Entry}
@@ -14,7 +16,7 @@ use Rattle.protocol.specs.declared.Message.{Message}
 use Rattle.protocol.specs.declared.Step.{Step}
 use Rattle.protocol.specs.declared.Administrator.{Administrator}
 use Rattle.protocol.specs.Types.{Ending}
-use Rattle.protocol.specs.Tools.{if, all, Result, refused, done, guard, then, passed}
+use Rattle.protocol.specs.Tools.{if, all, Result, refused, done, guard, then, passed, same_done}
 use Rattle.protocol.specs.Sizes.{messages, sized, write_size, view_with}
 use Rattle.protocol.specs.Entries.{chosen}
 use Rattle.protocol.specs.Servers.{START, END, ANSWER}
@@ -24,10 +26,10 @@ use Rattle.protocol.specs.Chains.{follow, chain, tagged, enough, shown}
 use Rattle.protocol.specs.Steps.{After, moved, request, link, open?, starts, takes, take, emptied, planned, restarts, restart_step, view_asked, fields_fit, perform, step}
 use Rattle.protocol.specs.Readable.{taken_answer}
 use Rattle.protocol.specs.Runs.{step_of, step_bytes, Run, noted, run, run_from}
-use Rattle.protocol.proofs.Laws.Tests.{and_left, and_right, by_bool, clash, went}
+use Rattle.protocol.proofs.Laws.Tests.{clash, went}
 use Rattle.protocol.proofs.Laws.Worlds.{content, sent, sent_link, sent_send, view_other}
 use Rattle.protocol.proofs.Laws.Fresh.{fresh_settled}
-use Rattle.protocol.proofs.Laws.Moves.{is_done, done_is, present_is}
+use Rattle.protocol.proofs.Laws.Moves.{is_done, present_is}
 use Rattle.protocol.proofs.Laws.Formed.{Formed}
 use Rattle.preservation.proofs.Chained.{follow_same}
 use Rattle.preservation.proofs.Updates.{request_free}
@@ -93,7 +95,7 @@ module _ (w : World) (v : View) where
   -- END closes in both or in neither
   closed_alike : (t : ℕ) (ks : List ℕ)
       → (eqb t (newest w) && enough other t ks (write_size (view other t))) ≡ (eqb t (newest w) && enough w t ks (write_size (view w t)))
-  closed_alike t ks = go (by_bool (eqb t (newest w)))
+  closed_alike t ks = go (cases_Bool (eqb t (newest w)))
     where
       go : (eqb t (newest w) ≡ true) ⊎ (eqb t (newest w) ≡ false)
           → (eqb t (newest w) && enough other t ks (write_size (view other t))) ≡ (eqb t (newest w) && enough w t ks (write_size (view w t)))
@@ -245,8 +247,8 @@ unfolding starts link with_message
 since_end {w} {b} s d k t ks a = go (eqb t (newest b) && enough b t ks (write_size (view b t)))
   where
     go : (c : Bool) → if c (starts b k (chosen (shown b t ks))) (moved (link b k)) ≡ done a → Since w a.world
-    go true e = let (_, f) = passed _ _ _ _ e in subst (λ (x : After). Since w x.world) (done_is f) (since_start (since_link s d k) (request START 0 (newest b + 1) (chosen (shown b t ks))))
-    go false e = subst (λ (x : After). Since w x.world) (done_is e) (since_link s d k)
+    go true e = let (_, f) = passed _ _ _ _ e in subst (λ (x : After). Since w x.world) (same_done f) (since_start (since_link s d k) (request START 0 (newest b + 1) (chosen (shown b t ks))))
+    go false e = subst (λ (x : After). Since w x.world) (same_done e) (since_link s d k)
 
 -- an answer to END is taken only while END is open
 taken_open : (b : World) (k r : ℕ) → (message b k).request.0 ≡ r → (message b r).kind ≡ END → (a : After) → take b k ≡ done a
@@ -255,7 +257,7 @@ unfolding take open?
 taken_open b k r q i a e =
     let (_, e1) = passed _ _ _ _ e in
     let (o, e2) = passed _ _ _ _ e1 in
-    let n : open? b r ≡ true = subst (λ (x : ℕ). open? b x ≡ true) q (and_right (not (message b k).taken) _ o) in
+    let n : open? b r ≡ true = subst (λ (x : ℕ). open? b x ≡ true) q (second_so (not (message b k).taken) _ o) in
     (eqb-true _ _ (rw (eq-eqb (message b r).kind END i) at n), sym (takes_end b k r _ q i) ∙ subst (λ (x : ℕ). takes b k x (message b k).view.0 ≡ done a) q e2)
 
 -- the same in a world with another pending view
@@ -281,8 +283,8 @@ module _ {w : World} (h : Formed w) (g : Unclosed w) (r : MessageNumber) (e : w.
   leads_more j js p b a l f =
       let s = l.since in
       let d = ended h r e in
-      let (_, u) = present_is w j (and_left _ _ p) in
-      let q : (message b.world j).request.0 ≡ r.0 = ap (λ (m : Message). m.request.0) (s.old j u) ∙ eqb-true _ _ (and_right (present w j) _ p) in
+      let (_, u) = present_is w j (first_so _ _ p) in
+      let q : (message b.world j).request.0 ≡ r.0 = ap (λ (m : Message). m.request.0) (s.old j u) ∙ eqb-true _ _ (second_so (present w j) _ p) in
       let i : (message b.world r.0).kind ≡ END = ap (λ (m : Message). m.kind) (s.old r.0 d.full.short.below) ∙ d.is in
       let (o, t) = taken_open b.world j r.0 q i a f in
       let k : b.world.administrator ≡ w.administrator = still s.ending o in
@@ -301,10 +303,10 @@ module _ {w : World} (h : Formed w) (g : Unclosed w) (r : MessageNumber) (e : w.
 
   leads_to : (js : List ℕ) → all (answers_to w r.0) js ≡ true → (a : After) → retaken w js ≡ done a → Leads js a
   unfolding retaken all
-  leads_to [] p a f = subst (Leads []) (done_is f) leads_none
+  leads_to [] p a f = subst (Leads []) (same_done f) leads_none
   leads_to (j ∷ js) p a f =
       let x = went _ _ _ f in
-      leads_more j js (and_left _ _ p) x.value a (leads_to js (and_right (answers_to w r.0 j) _ p) x.value x.is) x.on
+      leads_more j js (first_so _ _ p) x.value a (leads_to js (second_so (answers_to w r.0 j) _ p) x.value x.is) x.on
 
 -- ---- the promise
 

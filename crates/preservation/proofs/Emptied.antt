@@ -5,6 +5,7 @@ use Rattle.std.proofs.Common.{arith, subst, ◌∙◌, eqb-true, eq-eqb}
 use Rattle.std.proofs.Math.Decide.{ℕ_discrete}
 use Rattle.std.proofs.Math.Path.{refl, sym, ap}
 use Rattle.std.proofs.Math.Logic.{inl, inr}
+use Rattle.std.proofs.lemmas.Bool.{or_cases, cases_Bool, or_right}
 use Rattle.protocol.specs.declared.MessageNumber.{MessageNumber}
 use Rattle.protocol.specs.declared.Message.{Message}
 use Rattle.protocol.specs.Tools.{if, any, all}
@@ -14,11 +15,12 @@ use Rattle.protocol.specs.Worlds.{World, message, with_message, unlinked, as_sen
 use Rattle.protocol.specs.Chains.{follow, chain}
 use Rattle.protocol.specs.Steps.{emptied}
 use Rattle.protocol.specs.Readable.{taken_answer, distinct}
-use Rattle.protocol.proofs.Laws.Tests.{clash, or_cases, by_bool, or_second}
+use Rattle.protocol.proofs.Laws.Tests.{clash}
 use Rattle.protocol.proofs.Laws.Worlds.{content, sent, message_as, sent_as}
 use Rattle.protocol.proofs.Laws.Sound.{used_as, not_answer}
+use Rattle.protocol.proofs.Laws.Lists.{all_map, all_member}
 use Rattle.preservation.specs.Chained.{Chained}
-use Rattle.preservation.proofs.Chained.{all_map, all_member, follow_same}
+use Rattle.preservation.proofs.Chained.{follow_same}
 use Rattle.preservation.specs.Links.{Is, Short}
 use Rattle.preservation.proofs.Links.{taken_is, is_taken_lem, chained_of}
 use Rattle.preservation.specs.Emptied.{Rooted}
@@ -75,11 +77,11 @@ module _ {w : World} {r : ℕ} (f : Rooted w r) where
 
   pub among_taken : (i : ℕ) → Is w r i → among i ≡ true
   unfolding any
-  among_taken i k = or_second (eqb i r) _ (f.chain.every i k.low k.below (is_taken_lem w r i k))
+  among_taken i k = or_right (eqb i r) _ (f.chain.every i k.low k.below (is_taken_lem w r i k))
 
   -- what is none of them: a taken answer of another request, another request, and what was not sent
   apart : (i : ℕ) → i ≢ r → (Is w r i → ⊥) → among i ≡ false
-  apart i n k = go (by_bool (among i))
+  apart i n k = go (cases_Bool (among i))
     where
       no : (i ≡ r) ⊎ Is w r i → among i ≡ false
       no (inl q) = absurd (n q)
@@ -117,7 +119,7 @@ module _ {w : World} {r : ℕ} (f : Rooted w r) where
   -- no answer of r is taken, and those of other requests are as before
   is_back : {q i : ℕ} → Is v q i → (q ≢ r) × Is w q i
   unfolding sent content
-  is_back {q} {i} k = go (by_bool (among i))
+  is_back {q} {i} k = go (cases_Bool (among i))
     where
       go : (among i ≡ true) ⊎ (among i ≡ false) → (q ≢ r) × Is w q i
       go (inl e) = clash k.taken (ap (λ (m : Message). m.taken) (emptied_in i e))

@@ -1,13 +1,14 @@
 -- Every accepted step keeps a world readable. Assumes nothing.
 use Rattle.std.specs.Prelude.{ℕ, zero, suc, ◌+◌, ◌/◌, ◌%◌, ◌^◌, ◌≤◌, ◌<◌, Bool, not, ◌&&◌, ◌||◌, ◌≡◌, ◌⊎◌, List, [], ◌∷◌, ltb, leb, eqb, None, Some}
-use Rattle.std.proofs.Common.{le_refl, arith, sym, ◌∙◌, inl, inr, pow_mono, ltb-true, leb-true, eqb-true, lt-ltb, le-leb, eq-eqb, ne_eqb}
+use Rattle.std.proofs.Common.{le_refl, lt_of_lt_of_le, arith, sym, ◌∙◌, inl, inr, pow_mono, ltb-true, leb-true, eqb-true, lt-ltb, le-leb, eq-eqb, ne_eqb}
 use Rattle.std.proofs.Math.Nat.{div-eq_of_lt}
 use Rattle.std.proofs.Math.Decide.{dec_le}
 use Rattle.std.proofs.Math.Bool.{true, false}
 use Rattle.std.proofs.Math.Path.{refl, ap, subst}
 use Rattle.std.specs.Int.Bits.{or_lt}
 use Rattle.std.proofs.Math.Pow.{pow_pos, pow-lt}
-use Rattle.std.proofs.lemmas.Bool.{eqb-false, not-true}
+use Rattle.std.proofs.lemmas.Bool.{eqb-false, not-true, and_from, or_left, or_right}
+use Rattle.std.specs.Cmp.{first_so, second_so}
 use Rattle.protocol.specs.declared.MessageNumber.{MessageNumber}
 use Rattle.protocol.specs.declared.Entry.{Entry}
 use Rattle.protocol.specs.declared.View.{View}
@@ -20,7 +21,7 @@ use Rattle.protocol.specs.declared.Phase.{Phase}
 use Rattle.protocol.specs.declared.Phase.TheVariants.{Idle, Reading, Writing}
 use Rattle.protocol.specs.declared.Administrator.{Administrator}
 use Rattle.protocol.specs.Types.{Ending}
-use Rattle.protocol.specs.Tools.{if, within, all, holds, bit_of, Result, refused, done, guard, passed}
+use Rattle.protocol.specs.Tools.{if, within, all, holds, bit_of, done, guard, passed, same_done}
 use Rattle.protocol.specs.Sizes.{clients, servers, views, messages, last_count, sized, write_size}
 use Rattle.protocol.specs.Entries.{entry, empty, count_of, writer_of, larger, chosen, same, entry_fits}
 use Rattle.protocol.specs.declared.Reply.{Reply}
@@ -29,21 +30,24 @@ use Rattle.protocol.specs.Clients.{NONE, WRITES, READS, number, begin, close_siz
 use Rattle.protocol.specs.Worlds.{World, view, server, client, message, newest, member, present, room, with_server, with_client, with_view, with_message, with_administrator, send, next_number, as_sent}
 use Rattle.protocol.specs.Chains.{chain, tagged, enough, shown}
 use Rattle.protocol.specs.Steps.{After, moved, request, answer, answers, begins, deliver, link, open?, taken_with, at_once, closes, starts, takes, take, fault, source?, lie, new_view, emptied, restarts, gives_up, write_step, read_step, deliver_step, fault_step, false_step, give_up_step, row_of, view_asked, step}
-use Rattle.protocol.specs.Readable.{is_sent, ending_fits, server_fits, phase_fits, client_range, client_fits, sender_fits, tag_rule, request_fits, next_fits, entry_zero, sent_fits, taken_answer}
-use Rattle.protocol.proofs.Laws.Tests.{and_left, and_right, and_both, clash, within_true, went, is_within, or_first, or_second}
-use Rattle.protocol.proofs.Laws.Entries.{larger_one, Listed, head, tail, chosen_one}
+use Rattle.protocol.specs.Readable.{is_sent, ending_fits, server_fits, phase_fits, client_range, client_fits, entry_zero, sent_fits, taken_answer}
+use Rattle.protocol.proofs.Laws.Tests.{clash, within_true, went, is_within}
+use Rattle.protocol.proofs.Laws.Entries.{larger_one, Listed, head, tail, chosen_one, same_refl}
 use Rattle.protocol.proofs.Laws.Worlds.{content, sent, message_new}
-use Rattle.protocol.proofs.Laws.Moves.{done_is, is_done, room_left, Serving, reads, writes, ends, joins, gathers, serving}
-use Rattle.protocol.proofs.Laws.Kinds.{IsClient, IsServer, client_of_lem as who_client, server_of_lem as who_server, value_of, by_kind}
-use Rattle.protocol.proofs.Laws.Formed.{Formed, formed, well_formed_lem}
+use Rattle.protocol.proofs.Laws.Moves.{is_done, room_left, Serving, reads, writes, ends, joins, gathers, serving, present_is}
+use Rattle.protocol.proofs.Laws.Kinds.{IsClient, IsServer, client_of_lem as who_client, server_of_lem as who_server, value_of, by_kind, not_end}
+use Rattle.protocol.proofs.Laws.Formed.{Formed, formed, well_formed_lem, SentParts, sent_parts}
+use Rattle.protocol.proofs.Laws.Lists.{all_map}
+use Rattle.protocol.proofs.Laws.Turns.{refused_done}
+use Rattle.protocol.proofs.Laws.Sound.{link_used, used_send}
 use Rattle.preservation.proofs.Formed.{sent_on}
-use Rattle.preservation.proofs.Chained.{chained, all_map}
+use Rattle.preservation.proofs.Chained.{chained}
 use Rattle.preservation.specs.Links.{Untaken}
 use Rattle.preservation.proofs.Links.{taken_is}
 use Rattle.preservation.specs.Emptied.{Rooted}
 use Rattle.preservation.specs.Kept.{StepKept}
 use Rattle.preservation.proofs.Emptied.{emptied_sent}
-use Rattle.preservation.proofs.Updates.{server_ok, mail_sent, request_of_lem, present_is, short, client_ok, formed_server, formed_client, formed_send, formed_link, emptied_onward, formed_emptied, formed_raise, formed_call}
+use Rattle.preservation.proofs.Updates.{server_ok, mail_sent, request_of_lem, short, client_ok, formed_server, formed_client, formed_send, formed_link, emptied_onward, formed_emptied, formed_raise, formed_call}
 
 -- ---- entries and keys
 
@@ -60,11 +64,8 @@ unfolding holds
 holds_bound keys zero n e h = clash e refl
 holds_bound keys (suc k) n e h = (omega arith, go (dec_le (suc k) n))
   where
-    less : {x y z : ℕ} → x < y → y ≤ z → x < z
-    less a b = omega arith
-
     none : n ≤ k → keys / 2 ^ k % 2 ≡ 0
-    none l = rw (div-eq_of_lt (less h (pow_mono l))) refl
+    none l = rw (div-eq_of_lt (lt_of_lt_of_le h (pow_mono l))) refl
 
     go : Dec (suc k ≤ n) → suc k ≤ n
     go (yes l) = l
@@ -85,17 +86,17 @@ record Serves (n : ℕ) (a : Server) : Type 0 where
 
 serves : (n : ℕ) (a : Server) → server_ok n a ≡ true → Serves n a
 serves n a e =
-    let e1 = and_right (leb a.view.0 n) _ e in
-    let e2 = and_right (ltb a.keys.0 (2 ^ n)) _ e1 in
+    let e1 = second_so (leb a.view.0 n) _ e in
+    let e2 = second_so (ltb a.keys.0 (2 ^ n)) _ e1 in
     record {
-      view = leb-true _ _ (and_left _ _ e);
-      keys = ltb-true _ _ (and_left _ _ e1);
-      own = and_left _ _ e2;
-      entry = and_right (a.faulty || (eqb a.keys.0 0 || eqb a.keys.0 (bit_of a.view.0))) _ e2;
+      view = leb-true _ _ (first_so _ _ e);
+      keys = ltb-true _ _ (first_so _ _ e1);
+      own = first_so _ _ e2;
+      entry = second_so (a.faulty || (eqb a.keys.0 0 || eqb a.keys.0 (bit_of a.view.0))) _ e2;
     }
 
 is_served : (n : ℕ) (a : Server) → Serves n a → server_ok n a ≡ true
-is_served n a h = and_both _ _ (le-leb _ _ h.view) (and_both _ _ (lt-ltb _ _ h.keys) (and_both _ _ h.own h.entry))
+is_served n a h = and_from _ _ (le-leb _ _ h.view) (and_from _ _ (lt-ltb _ _ h.keys) (and_from _ _ h.own h.entry))
 
 -- the server of w with the number s
 server_of_lem : {w : World} → Formed w → (s : ℕ) → IsServer s → Serves (newest w) (server w s)
@@ -104,31 +105,17 @@ server_of_lem {w} h s i = serves (newest w) (server w s) (h.served s i.low i.hig
 
 -- ---- what a message's clause says
 
-pub record Mailed (w : World) (m : Message) : Type 0 where
-  pub sender : sender_fits m.kind m.sender ≡ true
-  pub tag : tag_rule (newest w) m.kind m.view.0 ≡ true
-  pub entry : entry_fits m.entry ≡ true
-
-pub mailed : {w : World} → Formed w → (n : ℕ) → 1 ≤ n → n ≤ w.used → Mailed w (message w n)
-unfolding sent_fits
-mailed {w} h n l u =
-    let m = message w n in
-    let e = mail_sent h n l u in
-    let e1 = and_right (within READ ANSWER m.kind) _ e in
-    let e2 = and_right (sender_fits m.kind m.sender) _ e1 in
-    let e3 = and_right (tag_rule (newest w) m.kind m.view.0) _ e2 in
-    let e4 = and_right (request_fits w m) _ e3 in
-    let e5 = and_right (next_fits m) _ e4 in
-    record { sender = and_left _ _ e1; tag = and_left _ _ e2; entry = and_right (entry_zero m) _ e5 }
+pub mailed : {w : World} → Formed w → (n : ℕ) → 1 ≤ n → n ≤ w.used → SentParts w (message w n)
+mailed {w} h n l u = sent_parts w (message w n) (mail_sent h n l u)
 
 -- an answer that fits
 answer_fits_lem : (w : World) (s n : ℕ) (x : Shown) → IsServer s → 1 ≤ x.view.0 → x.view.0 ≤ newest w → (present w n && is_request (message w n).kind) ≡ true → entry_fits x.entry ≡ true
     → sent_fits w (answer s n x) ≡ true
 unfolding sent_fits
-answer_fits_lem w s n x i l u q e = and_both _ _ (is_within 1 servers s i.low i.high) (and_both _ _ (is_within 1 (newest w) x.view.0 l u) (and_both _ _ q e))
+answer_fits_lem w s n x i l u q e = and_from _ _ (is_within 1 servers s i.low i.high) (and_from _ _ (is_within 1 (newest w) x.view.0 l u) (and_from _ _ q e))
 
 asks : (w : World) (n : ℕ) → present w n ≡ true → is_request (message w n).kind ≡ true → (present w n && is_request (message w n).kind) ≡ true
-asks w n p k = and_both _ _ p k
+asks w n p k = and_from _ _ p k
 
 replacing_low : (a : Server) (e : Entry) (b : Bool) → 1 ≤ a.view.0 → 1 ≤ (replacing a e b).view.0
 unfolding replacing
@@ -144,20 +131,20 @@ source_fits {w} h source e = go (eqb source 0) e
   where
     go : (b : Bool) → (b || (present w source && eqb (message w source).kind WRITE)) ≡ true → entry_fits (if b empty (message w source).entry) ≡ true
     go true e = refl
-    go false e = let (l, u) = present_is w source (and_left _ _ e) in (mailed h source l u).entry
+    go false e = let (l, u) = present_is w source (first_so _ _ e) in (mailed h source l u).entry
 
 -- ---- deliver, fault and false answer
 
 module _ {w : World} (h : Formed w) {s : ℕ} (i : IsServer s) where
   silent : (b : Server) → Serves (newest w) b → (a : After) → moved (with_server w s b) ≡ done a → Formed a.world
-  silent b k a e = subst (λ (x : After). Formed x.world) (done_is e) (formed_server h s i.low i.high b (is_served (newest w) b k))
+  silent b k a e = subst (λ (x : After). Formed x.world) (same_done e) (formed_server h s i.low i.high b (is_served (newest w) b k))
 
   answered : (b : Server) (n : ℕ) (x : Shown) → Serves (newest w) b → 1 ≤ x.view.0 → x.view.0 ≤ newest w → (present w n && is_request (message w n).kind) ≡ true → entry_fits x.entry ≡ true
       → (a : After) → guard (room w) 10 (moved (send (with_server w s b) (answer s n x))) ≡ done a → Formed a.world
   unfolding with_server present message
   answered b n x k l u q e a d =
       let (p, d1) = passed _ _ _ _ d in
-      subst (λ (y : After). Formed y.world) (done_is d1)
+      subst (λ (y : After). Formed y.world) (same_done d1)
       (formed_send (formed_server h s i.low i.high b (is_served (newest w) b k)) (answer s n x) (room_left w p) (answer_fits_lem (with_server w s b) s n x i l u q e) refl refl)
 
   replacing_serves : (a : Server) (e : Entry) (b : Bool) → Serves (newest w) a → entry_fits e ≡ true → Serves (newest w) (replacing a e b)
@@ -170,7 +157,7 @@ module _ {w : World} (h : Formed w) {s : ℕ} (i : IsServer s) where
 
   without_key_serves : (a : Server) → Serves (newest w) a → Serves (newest w) (without_key a)
   unfolding without_key
-  without_key_serves a k = record { view = k.view; keys = pow_pos (newest w); own = or_second a.faulty _ refl; entry = k.entry }
+  without_key_serves a k = record { view = k.view; keys = pow_pos (newest w); own = or_right a.faulty _ refl; entry = k.entry }
 
   module _ (a : Server) (m : Message) (k : Serves (newest w) a) (l : 1 ≤ m.view.0) (u : m.view.0 ≤ newest w) (f : entry_fits m.entry ≡ true) where
     joining_serves : Serves (newest w) (joining a m)
@@ -179,7 +166,7 @@ module _ {w : World} (h : Formed w) {s : ℕ} (i : IsServer s) where
         record {
           view = u;
           keys = bit_bound m.view.0 (newest w) l u;
-          own = or_second a.faulty _ (or_second (eqb (bit_of m.view.0) 0) _ (eq-eqb (bit_of m.view.0) (bit_of m.view.0) refl));
+          own = or_right a.faulty _ (or_right (eqb (bit_of m.view.0) 0) _ (eq-eqb (bit_of m.view.0) (bit_of m.view.0) refl));
           entry = fits_larger a.entry m.entry k.entry f;
         }
 
@@ -189,11 +176,11 @@ module _ {w : World} (h : Formed w) {s : ℕ} (i : IsServer s) where
         record {
           view = k.view;
           keys = or_lt (newest w) a.keys.0 (bit_of m.view.0) k.keys (bit_bound m.view.0 (newest w) l u);
-          own = or_first a.faulty _ e;
+          own = or_left a.faulty _ e;
           entry = k.entry;
         }
 
-  start_tag : (m : Message) → Mailed w m → m.kind ≡ START → (1 ≤ m.view.0) × (m.view.0 ≤ newest w)
+  start_tag : (m : Message) → SentParts w m → m.kind ≡ START → (1 ≤ m.view.0) × (m.view.0 ≤ newest w)
   start_tag m k e = within_true 1 (newest w) m.view.0 (rw e at k.tag)
 
   deliver_kept : (n : ℕ) (a : After) → deliver w s n ≡ done a → Formed a.world
@@ -247,18 +234,14 @@ module _ {w : World} (h : Formed w) {s : ℕ} (i : IsServer s) where
       let (y, f3) = passed _ _ _ _ f2 in
       let (l, e2) = passed _ _ _ _ g.on in
       let b = holds_bound (server w s).keys.0 t (newest w) y (server_of_lem h s i).keys in
-      subst (λ (x : After). Formed x.world) (done_is e2)
+      subst (λ (x : After). Formed x.world) (same_done e2)
       (formed_send h _ (room_left w l) (answer_fits_lem w s n (record { view = record { 0 = t }; entry = if (eqb source 0) empty (message w source).entry }) i b.0 b.1
-      (asks w n p (and_left _ _ q)) (entries (and_right (is_request (message w n).kind) _ q))) refl refl)
+      (asks w n p (first_so _ _ q)) (entries (second_so (is_request (message w n).kind) _ q))) refl refl)
     where
       entries : source? w source ≡ true → entry_fits (if (eqb source 0) empty (message w source).entry) ≡ true
       entries q = source_fits h source q
 
 -- ---- write and read
-
-used_send : (w : World) (m : Message) → (send w m).used ≡ w.used + 1
-unfolding send
-used_send w m = refl
 
 -- a client's record and a message are set in either sequence
 send_client : (w : World) (c : ℕ) (a : Client) (m : Message) → Formed (with_client (send w m) c a) → Formed (send (with_client w c a) m)
@@ -282,15 +265,15 @@ new_sent : {w : World} → Formed w → (m : Message) → w.used < messages → 
 unfolding is_sent present
 new_sent {w} h m l kind sender p q =
     let e : message (send w m) (w.used + 1) ≡ m = message_new w m (omega (arith, h.message_count)) in
-    and_both _ _ (is_within 1 (send w m).used (w.used + 1) (omega arith) (omega (arith, used_send w m)))
-    (and_both _ _ (eq-eqb _ _ (ap (λ (x : Message). x.kind) e ∙ p)) (eq-eqb _ _ (ap (λ (x : Message). x.sender) e ∙ q)))
+    and_from _ _ (is_within 1 (send w m).used (w.used + 1) (omega arith) (omega (arith, used_send w m)))
+    (and_from _ _ (eq-eqb _ _ (ap (λ (x : Message). x.kind) e ∙ p)) (eq-eqb _ _ (ap (λ (x : Message). x.sender) e ∙ q)))
 
 -- a READ or WRITE of client c that fits
 client_message : (w : World) (c kind : ℕ) (e : Entry) → IsClient c → (kind ≡ READ) ⊎ (kind ≡ WRITE) → entry_zero (request kind c 0 e) ≡ true → entry_fits e ≡ true
     → sent_fits w (request kind c 0 e) ≡ true
 unfolding sent_fits
-client_message w c kind e i (inl k) z f = rw k (and_both _ _ (is_within 1 clients c i.low i.high) (and_both _ _ (rw k at z) f))
-client_message w c kind e i (inr k) z f = rw k (and_both _ _ (is_within 1 clients c i.low i.high) (and_both _ _ (rw k at z) f))
+client_message w c kind e i (inl k) z f = rw k (and_from _ _ (is_within 1 clients c i.low i.high) (and_from _ _ (rw k at z) f))
+client_message w c kind e i (inr k) z f = rw k (and_from _ _ (is_within 1 clients c i.low i.high) (and_from _ _ (rw k at z) f))
 
 -- the clause of a client
 record Client-of (w : World) (c : ℕ) : Type 0 where
@@ -302,8 +285,8 @@ client_of_lem : {w : World} → Formed w → (c : ℕ) → IsClient c → Client
 unfolding client_fits client_range
 client_of_lem {w} h c i =
     let e = h.client c i.low i.high in
-    let r = and_left _ _ e in
-    record { entry = and_left _ _ r; given = and_right (entry_fits (client w c).entry) _ r; phase = and_right (client_range (client w c)) _ e }
+    let r = first_so _ _ e in
+    record { entry = first_so _ _ r; given = second_so (entry_fits (client w c).entry) _ r; phase = second_so (client_range (client w c)) _ e }
 
 begins_kept : {w : World} → Formed w → {c : ℕ} → IsClient c → (kind value : ℕ) → (kind ≡ WRITES) ⊎ ((kind ≡ READS) × (value ≡ 0)) → value ≤ last_count → (a : After) → begins w c kind value
     ≡ done a → Formed a.world
@@ -312,7 +295,7 @@ begins_kept {w} h {c} i kind value k v a e =
     let g = went _ _ _ e in
     let (q, f) = passed _ _ _ _ g.is in
     let (l, e1) = passed _ _ _ _ g.on in
-    subst (λ (x : After). Formed x.world) (done_is e1) (go (room_left w l) g.value (is_done f))
+    subst (λ (x : After). Formed x.world) (same_done e1) (go (room_left w l) g.value (is_done f))
   where
     m : Message
     m = request READ c 0 empty
@@ -322,16 +305,16 @@ begins_kept {w} h {c} i kind value k v a e =
 
     fits : w.used < messages → client_ok (send w m) c (record { phase = Reading (number (w.used + 1)); kind = kind; entry = entry 0 0 value; given = (client w c).given }) ≡ true
     fits l =
-        and_both _ _ (and_both _ _ (value_fits value v) (client_of_lem h c i).given)
-        (and_both _ _ (kinds k) (and_both _ _ (new_sent h m l READ c refl refl) (reading k)))
+        and_from _ _ (and_from _ _ (value_fits value v) (client_of_lem h c i).given)
+        (and_from _ _ (kinds k) (and_from _ _ (new_sent h m l READ c refl refl) (reading k)))
       where
         kinds : (kind ≡ WRITES) ⊎ ((kind ≡ READS) × (value ≡ 0)) → within WRITES READS kind ≡ true
         kinds (inl e) = rw e refl
         kinds (inr e) = rw e.0 refl
 
         reading : (kind ≡ WRITES) ⊎ ((kind ≡ READS) × (value ≡ 0)) → (eqb kind WRITES || eqb value 0) ≡ true
-        reading (inl e) = or_first (eqb kind WRITES) _ (eq-eqb _ _ e)
-        reading (inr e) = or_second (eqb kind WRITES) _ (eq-eqb _ _ e.1)
+        reading (inl e) = or_left (eqb kind WRITES) _ (eq-eqb _ _ e)
+        reading (inr e) = or_right (eqb kind WRITES) _ (eq-eqb _ _ e.1)
 
     go : w.used < messages → (b : Client) → b ≡ record { phase = Reading (number (w.used + 1)); kind = kind; entry = entry 0 0 value; given = (client w c).given } → Formed (send (with_client w c b) m)
     go l b q = rw q (send_client w c _ m (formed_client (sends l) c i.low i.high _ (fits l)))
@@ -345,10 +328,10 @@ chosen_fits (e ∷ l) f = f _ (chosen_one e l)
 shown_fits : {w : World} → Formed w → (t : ℕ) (ks : List ℕ) → all (present w) ks ≡ true → (x : Entry) → Listed x (shown w t ks) → entry_fits x ≡ true
 unfolding shown all
 shown_fits h t [] a x i = elim i [ ]
-shown_fits {w} h t (k ∷ ks) a x i = go (tagged w t k) i (shown_fits h t ks (and_right (present w k) _ a) x)
+shown_fits {w} h t (k ∷ ks) a x i = go (tagged w t k) i (shown_fits h t ks (second_so (present w k) _ a) x)
   where
     own : entry_fits (message w k).entry ≡ true
-    own = let (l, u) = present_is w k (and_left _ _ a) in (mailed h k l u).entry
+    own = let (l, u) = present_is w k (first_so _ _ a) in (mailed h k l u).entry
 
     go : (b : Bool) → Listed x (if b ((message w k).entry ∷ shown w t ks) (shown w t ks)) → (Listed x (shown w t ks) → entry_fits x ≡ true) → entry_fits x ≡ true
     go true (head e) f = ap entry_fits (sym e) ∙ own
@@ -363,8 +346,8 @@ to_write_fits c who e i f g l = go (eqb c.kind WRITES) l
     go : (b : Bool) → (not b || leb (next_count c e) last_count) ≡ true → entry_fits (if b (entry (next_count c e) who c.entry.value) e) ≡ true
     go true k =
         let n : next_count c e ≤ last_count = leb-true _ _ k in
-        and_both _ _ (lt-ltb (next_count c e) (2 ^ 32) (omega arith))
-        (and_both _ _ (le-leb who clients i.high) (and_right (leb (writer_of c.entry) clients) _ (and_right (ltb (count_of c.entry) (2 ^ 32)) _ f)))
+        and_from _ _ (lt-ltb (next_count c e) (2 ^ 32) (omega arith))
+        (and_from _ _ (le-leb who clients i.high) (second_so (leb (writer_of c.entry) clients) _ (second_so (ltb (count_of c.entry) (2 ^ 32)) _ f)))
     go false k = g
 
 given_by_fits : (c : Client) (e : Entry) → ltb c.given.0 (2 ^ 32) ≡ true → count_left c e ≡ true → ltb (given_by c e).0 (2 ^ 32) ≡ true
@@ -375,19 +358,8 @@ given_by_fits c e f l = go (eqb c.kind WRITES) l
     go true k = let n : next_count c e ≤ last_count = leb-true _ _ k in lt-ltb (next_count c e) (2 ^ 32) (omega arith)
     go false k = f
 
-same_refl : (e : Entry) → same e e ≡ true
-unfolding same
-same_refl e = and_both _ _ (eq-eqb (count_of e) (count_of e) refl) (and_both _ _ (eq-eqb (writer_of e) (writer_of e) refl) (eq-eqb e.value e.value refl))
-
-refused_done : {A B : Type 0} {n : ℕ} {v : A} → ◌≡◌ {A = Result A} (refused n) (done v) → B
-refused_done e = let z : ◌≡◌ {A = ℕ} 0 1 = cc in absurd (omega arith)
-
-linked_used : (w : World) (k : ℕ) → (link w k).used ≡ w.used
-unfolding link with_message
-linked_used w k = refl
-
 linked_room : (w : World) (k : ℕ) → w.used < messages → (link w k).used < messages
-linked_room w k l = omega (arith, linked_used w k)
+linked_room w k l = omega (arith, link_used w k)
 
 -- a client's WRITE is sent
 wrote_kept : {w : World} → Formed w → {c : ℕ} → IsClient c → (a : Client) → w.used < messages → a.phase ≡ Writing (number (w.used + 1)) → within WRITES READS a.kind ≡ true
@@ -404,16 +376,16 @@ wrote_kept {w} h {c} i a l p k f g = send_client w c a m (formed_client (formed_
 
     fits : client_ok (send w m) c a ≡ true
     fits =
-        and_both _ _ (and_both _ _ f g)
+        and_from _ _ (and_from _ _ f g)
         (subst (λ (x : Phase). phase_fits (send w m) c a x ≡ true) (sym p)
-        (and_both _ _ k (and_both _ _ (new_sent h m l WRITE c refl refl) (ap (λ (x : Message). same a.entry x.entry) new ∙ same_refl a.entry))))
+        (and_from _ _ k (and_from _ _ (new_sent h m l WRITE c refl refl) (ap (λ (x : Message). same a.entry x.entry) new ∙ same_refl a.entry))))
 
 -- an operation is complete
 ended_fits_lem : (w : World) (c : ℕ) (a : Client) → a.phase ≡ Idle → within WRITES READS a.kind ≡ true → client_range a ≡ true → client_ok w c a ≡ true
 ended_fits_lem w c a p k f =
     let (l, u) = within_true WRITES READS a.kind k in
-    and_both _ _ f
-    (subst (λ (x : Phase). phase_fits w c a x ≡ true) (sym p) (and_both _ _ (le-leb _ _ u) (or_first (not (eqb a.kind NONE)) _ (ap not (ne_eqb a.kind NONE (λ e. omega arith))))))
+    and_from _ _ f
+    (subst (λ (x : Phase). phase_fits w c a x ≡ true) (sym p) (and_from _ _ (le-leb _ _ u) (or_left (not (eqb a.kind NONE)) _ (ap not (ne_eqb a.kind NONE (λ e. omega arith))))))
 
 room_raised : (w : World) (a : Administrator) → w.used < messages → (with_administrator w a).used < messages
 unfolding with_administrator
@@ -425,7 +397,7 @@ raised_newest w = le_refl _
 
 start_fits : (w : World) (t : ℕ) (e : Entry) → 1 ≤ t → t ≤ newest w → entry_fits e ≡ true → sent_fits w (request START 0 t e) ≡ true
 unfolding sent_fits
-start_fits w t e l u f = and_both _ _ (is_within 1 (newest w) t l u) f
+start_fits w t e l u f = and_from _ _ (is_within 1 (newest w) t l u) f
 
 -- START is sent
 start_kept : (w : World) (k : ℕ) → Formed (link w k) → (q : MessageNumber) → w.administrator.ending ≡ Some q → w.used < messages → (e : Entry) → entry_fits e ≡ true
@@ -443,7 +415,7 @@ module _ {w : World} (h : Formed w) {k r : ℕ} (u : Untaken w k r) where
   taken_present : all (present w) (taken_with w k) ≡ true
   unfolding all present
   taken_present =
-      and_both _ _ (is_within 1 w.used k u.low u.below)
+      and_from _ _ (is_within 1 w.used k u.low u.below)
       (subst (λ (q : ℕ). all (present w) (chain w q) ≡ true) (sym u.request)
       (all_map (taken_answer w r) (present w) (chain w r) (λ j e. let i = taken_is w r j e in is_within 1 w.used j i.low i.below)
       (chained w r (h.chained r u.from u.to) u.asked).only))
@@ -469,10 +441,10 @@ module _ {w : World} (h : Formed w) {k r : ℕ} (u : Untaken w k r) where
           (guard (room w) 10 (moved (send (with_client (link w k) c x.client) (request WRITE c 0 x.client.entry)))) ≡ done a
           → Formed a.world
       ends {x} d f r e =
-          subst (λ (z : After). Formed z.world) (done_is (rw (ap (λ (z : Close). z.complete) d) at e))
+          subst (λ (z : After). Formed z.world) (same_done (rw (ap (λ (z : Close). z.complete) d) at e))
           (formed_client formed_linked c i.low i.high x.client
           (ended_fits_lem (link w k) c x.client (ap (λ (z : Close). z.client.phase) d) (ap (λ (z : Close). within WRITES READS z.client.kind) d ∙ r)
-          (and_both _ _ (ap (λ (z : Close). entry_fits z.client.entry) d ∙ f) (ap (λ (z : Close). ltb z.client.given.0 (2 ^ 32)) d ∙ o.given))))
+          (and_from _ _ (ap (λ (z : Close). entry_fits z.client.entry) d ∙ f) (ap (λ (z : Close). ltb z.client.given.0 (2 ^ 32)) d ∙ o.given))))
 
       -- its WRITE is sent
       writes : {q : MessageNumber} → (client w c).phase ≡ Reading q → (x : Close)
@@ -484,9 +456,9 @@ module _ {w : World} (h : Formed w) {k r : ℕ} (u : Untaken w k r) where
           let (n, f1) = passed _ _ _ _ f in
           let d = is_done f1 in
           let (l, e1) = passed _ _ _ _ (rw (ap (λ (z : Close). z.complete) d) at e) in
-          subst (λ (z : After). Formed z.world) (done_is e1)
-          (wrote_kept formed_linked i x.client (linked_room w k (room_left w l)) (ap (λ (z : Close). z.client.phase) d ∙ ap (λ (n : ℕ). Writing (number (n + 1))) (sym (linked_used w k)))
-          (ap (λ (z : Close). within WRITES READS z.client.kind) d ∙ and_left (within WRITES READS (client w c).kind) _ (rw p at o.phase))
+          subst (λ (z : After). Formed z.world) (same_done e1)
+          (wrote_kept formed_linked i x.client (linked_room w k (room_left w l)) (ap (λ (z : Close). z.client.phase) d ∙ ap (λ (n : ℕ). Writing (number (n + 1))) (sym (link_used w k)))
+          (ap (λ (z : Close). within WRITES READS z.client.kind) d ∙ first_so (within WRITES READS (client w c).kind) _ (rw p at o.phase))
           (ap (λ (z : Close). entry_fits z.client.entry) d ∙ to_write_fits (client w c) c e' i o.entry (chosen_taken t) n)
           (ap (λ (z : Close). ltb z.client.given.0 (2 ^ 32)) d ∙ given_by_fits (client w c) e' o.given n))
 
@@ -500,16 +472,16 @@ module _ {w : World} (h : Formed w) {k r : ℕ} (u : Untaken w k r) where
           either : (b : Bool)
               → if b (done (complete_with (client w c) e')) (write_next (client w c) c e' (next_number w)) ≡ done x
               → Formed a.world
-          either true f = ends (is_done f) (chosen_taken t) (and_left (within WRITES READS (client w c).kind) _ (rw p at o.phase)) e
+          either true f = ends (is_done f) (chosen_taken t) (first_so (within WRITES READS (client w c).kind) _ (rw p at o.phase)) e
           either false f = writes p x f e
-      go (Writing q) p x f e = ends (is_done f) o.entry (and_left (within WRITES READS (client w c).kind) _ (rw p at o.phase)) e
+      go (Writing q) p x f e = ends (is_done f) o.entry (first_so (within WRITES READS (client w c).kind) _ (rw p at o.phase)) e
 
   -- the END of the newest view closes
   starts_kept : (q : MessageNumber) → w.administrator.ending ≡ Some q → (t : ℕ) (a : After) → starts w k (chosen (shown w t (taken_with w k))) ≡ done a → Formed a.world
   unfolding starts
   starts_kept q n t a e =
       let (l, e1) = passed _ _ _ _ e in
-      subst (λ (x : After). Formed x.world) (done_is e1)
+      subst (λ (x : After). Formed x.world) (same_done e1)
       (start_kept w k formed_linked q n (room_left w l) (chosen (shown w t (taken_with w k))) (chosen_taken t))
 
   takes_kept : open? w r ≡ true → (t : ℕ) (a : After) → takes w k r t ≡ done a → Formed a.world
@@ -517,7 +489,7 @@ module _ {w : World} (h : Formed w) {k r : ℕ} (u : Untaken w k r) where
   takes_kept o t a e = go (eqb (message w r).kind END) refl o e
     where
       stays : moved (link w k) ≡ done a → Formed a.world
-      stays e = subst (λ (x : After). Formed x.world) (done_is e) formed_linked
+      stays e = subst (λ (x : After). Formed x.world) (same_done e) formed_linked
 
       ending : (x : Ending) → w.administrator.ending ≡ x → end_of x ≡ r → (q : MessageNumber) × (w.administrator.ending ≡ Some q)
       ending None p o = absurd (omega (arith, u.from))
@@ -531,12 +503,9 @@ module _ {w : World} (h : Formed w) {k r : ℕ} (u : Untaken w k r) where
       who b =
           let (l, h') = within_true READ END (message w r).kind u.asked in
           let s = (mailed h r u.from u.to).sender in
-          let n : (message w r).kind ≤ WRITE = below (eqb-false _ _ b) h' in
+          let n : (message w r).kind ≤ WRITE = not_end (eqb-false _ _ b) h' in
           let (c, d) = within_true 1 clients (message w r).sender (rw (le-leb (message w r).kind WRITE n) at s) in
           record { low = c; high = d }
-        where
-          below : {x : ℕ} → (x ≡ END → ⊥) → x ≤ END → x ≤ WRITE
-          below f l = omega arith
 
       closing : IsClient (message w r).sender → (b : Bool) → if b (closes w k (message w r).sender (chosen (shown w t (taken_with w k))) (at_once w t (taken_with w k))) (moved (link w k))
           ≡ done a → Formed a.world
@@ -554,10 +523,10 @@ module _ {w : World} (h : Formed w) {k r : ℕ} (u : Untaken w k r) where
 -- what the tests of a take say of the answer k
 pub untaken : {w : World} → Formed w → (k : ℕ) → (present w k && eqb (message w k).kind ANSWER) ≡ true → (message w k).taken ≡ false → Untaken w k (message w k).request.0
 untaken {w} h k p f =
-    let (l, u) = present_is w k (and_left _ _ p) in
-    let i = eqb-true _ _ (and_right (present w k) _ p) in
+    let (l, u) = present_is w k (first_so _ _ p) in
+    let i = eqb-true _ _ (second_so (present w k) _ p) in
     let q = request_of_lem h k l u i in
-    let (c, d) = present_is w (message w k).request.0 (and_left _ _ q) in
+    let (c, d) = present_is w (message w k).request.0 (first_so _ _ q) in
     record {
       low = l;
       below = u;
@@ -566,7 +535,7 @@ untaken {w} h k p f =
       request = refl;
       from = c;
       to = d;
-      asked = and_right (present w (message w k).request.0) _ q;
+      asked = second_so (present w (message w k).request.0) _ q;
       full = h.full;
       count = h.message_count;
     }
@@ -576,13 +545,13 @@ unfolding take
 take_kept {w} h k a e =
     let (p, e1) = passed _ _ _ _ e in
     let (o, e2) = passed _ _ _ _ e1 in
-    takes_kept h (untaken h k p (not-true _ (and_left (not (message w k).taken) _ o))) (and_right (not (message w k).taken) _ o) (message w k).view.0 a e2
+    takes_kept h (untaken h k p (not-true _ (first_so (not (message w k).taken) _ o))) (second_so (not (message w k).taken) _ o) (message w k).view.0 a e2
 
 -- ---- a new view
 
 end_fits_lem : {w : World} → Formed w → sent_fits w (request END 0 (newest w) empty) ≡ true
 unfolding sent_fits same entry_fits
-end_fits_lem {w} h = and_both _ _ (is_within 1 (newest w) (newest w) h.low (le_refl _)) refl
+end_fits_lem {w} h = and_from _ _ (is_within 1 (newest w) (newest w) h.low (le_refl _)) refl
 
 -- the view, the administrator's record and END are set in either sequence
 send_call : (w : World) (a : Administrator) (t : ℕ) (v : View) (m : Message) → Formed (with_view (with_administrator (send w m) a) t v) → Formed (send (with_view (with_administrator w a) t v) m)
@@ -602,8 +571,8 @@ new_view_kept {w} h v a e =
     let (p, f1) = passed _ _ _ _ g.is in
     let (z, f2) = passed _ _ _ _ f1 in
     let (l, e1) = passed _ _ _ _ g.on in
-    subst (λ (x : After). Formed x.world) (done_is e1)
-    (go g.value (is_done f2) (and_left _ _ z) (ltb-true _ _ (and_right (sized v) _ z)) (room_left w l))
+    subst (λ (x : After). Formed x.world) (same_done e1)
+    (go g.value (is_done f2) (first_so _ _ z) (ltb-true _ _ (second_so (sized v) _ z)) (room_left w l))
   where
     m : Message
     m = request END 0 (newest w) empty
@@ -624,10 +593,10 @@ unfolding gives_up give_up client_range same
 gives_up_kept {w} h {c} i a e =
     let g = went _ _ _ e in
     let (n, f) = passed _ _ _ _ g.is in
-    subst (λ (x : After). Formed x.world) (done_is g.on) (go g.value (is_done f))
+    subst (λ (x : After). Formed x.world) (same_done g.on) (go g.value (is_done f))
   where
     go : (b : Client) → b ≡ record { phase = Idle; kind = NONE; entry = empty; given = (client w c).given } → Formed (with_client w c b)
-    go b q = rw q (formed_client h c i.low i.high _ (and_both _ _ (and_both _ _ empty_fits (client_of_lem h c i).given) refl))
+    go b q = rw q (formed_client h c i.low i.high _ (and_from _ _ (and_from _ _ empty_fits (client_of_lem h c i).given) refl))
 
 -- ---- a restart
 
@@ -643,16 +612,16 @@ pub ended : {w : World} → Formed w → (r : MessageNumber) → w.administrator
 unfolding is_sent
 ended {w} h r e =
     let f = subst (λ (x : Ending). ending_fits w x ≡ true) e h.ending in
-    let f1 = and_right (ltb (newest w) views) _ f in
-    let s = and_left _ _ f1 in
-    let (l, u) = present_is w r.0 (and_left _ _ s) in
-    let i : (message w r.0).kind ≡ END = eqb-true _ _ (and_left _ _ (and_right (present w r.0) _ s)) in
+    let f1 = second_so (ltb (newest w) views) _ f in
+    let s = first_so _ _ f1 in
+    let (l, u) = present_is w r.0 (first_so _ _ s) in
+    let i : (message w r.0).kind ≡ END = eqb-true _ _ (first_so _ _ (second_so (present w r.0) _ s)) in
     let k : is_request (message w r.0).kind ≡ true = ap (λ (x : ℕ). is_request x) i in
     record {
       is = i;
-      room = ltb-true _ _ (and_left _ _ f);
+      room = ltb-true _ _ (first_so _ _ f);
       sent = s;
-      tag = eqb-true _ _ (and_right (is_sent w r.0 END 0) _ f1);
+      tag = eqb-true _ _ (second_so (is_sent w r.0 END 0) _ f1);
       full = record { short = short h r.0 l u k; chain = chained w r.0 (h.chained r.0 l u) k };
     }
 
@@ -684,7 +653,7 @@ restarts_kept {w} h v a e =
     let (p, f1) = passed _ _ _ _ g.is in
     let (z, f2) = passed _ _ _ _ f1 in
     let (r, q) = end_sent _ p in
-    subst (λ (x : After). Formed x.world) (done_is g.on) (rw (is_done f2) (go r q (keeps_view v) z))
+    subst (λ (x : After). Formed x.world) (same_done g.on) (rw (is_done f2) (go r q (keeps_view v) z))
   where
     go : (r : MessageNumber) → w.administrator.ending ≡ Some r → (b : Bool) → (b || sized v) ≡ true
         → Formed (if b (with_administrator (emptied w (end_of w.administrator.ending)) w.administrator)

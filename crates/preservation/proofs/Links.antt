@@ -1,11 +1,13 @@
 -- Taking an answer keeps every chain: the answer becomes the head of its request's. Assumes nothing.
-use Rattle.std.specs.Prelude.{ℕ, ◌+◌, ◌≤◌, ◌<◌, ◌-◌, Bool, ◌||◌, ◌≡◌, ◌⊎◌, ◌≢◌, eqb}
+use Rattle.std.specs.Prelude.{ℕ, ◌+◌, ◌≤◌, ◌<◌, ◌-◌, ◌||◌, ◌≡◌, ◌≢◌, eqb}
 use Rattle.std.proofs.Math.Decide.{ℕ_discrete, dec_lt}
-use Rattle.std.proofs.Common.{arith, subst, ◌∙◌, inl, inr, eqb-true, eq-eqb}
+use Rattle.std.proofs.Common.{arith, subst, ◌∙◌, eqb-true, eq-eqb}
 use Rattle.std.proofs.Math.Bool.{true, false, not}
-use Rattle.std.proofs.Math.Path.{refl, sym, ap}
+use Rattle.std.proofs.Math.Path.{sym, ap}
 use mathlib.Core.List.{List, ◌∷◌}
 use Rattle.std.proofs.Math.ListN.{length}
+use Rattle.std.specs.Cmp.{first_so, second_so}
+use Rattle.std.proofs.lemmas.Bool.{and_from, false_from_ne_true, or_left, or_right}
 use Rattle.protocol.specs.declared.MessageNumber.{MessageNumber}
 use Rattle.protocol.specs.declared.Message.{Message}
 use Rattle.protocol.specs.Tools.{within, any, all}
@@ -15,32 +17,29 @@ use Rattle.protocol.specs.Worlds.{World, message, present, with_message}
 use Rattle.protocol.specs.Chains.{follow, chain}
 use Rattle.protocol.specs.Steps.{link}
 use Rattle.protocol.specs.Readable.{taken_answer, distinct}
-use Rattle.protocol.proofs.Laws.Tests.{and_left, and_right, and_both, by_bool, clash, within_true, is_within}
+use Rattle.protocol.proofs.Laws.Tests.{clash, within_true, is_within}
 use Rattle.protocol.proofs.Laws.Worlds.{content, sent, message_same, message_other, message_out, sent_link}
 use Rattle.protocol.proofs.Laws.Sound.{link_used, link_other, link_answer, link_taken, link_request, not_answer}
+use Rattle.protocol.proofs.Laws.Lists.{all_map}
 use Rattle.preservation.specs.Chained.{Chained}
-use Rattle.preservation.proofs.Chained.{all_map, outside, pigeons, count_lacks, count_lacks_two, follow_same, follow_step, follow_enough, follow_longer}
+use Rattle.preservation.proofs.Chained.{outside, pigeons, count_lacks, count_lacks_two, follow_same, follow_step, follow_enough, follow_longer}
 use Rattle.preservation.specs.Links.{Untaken, Is, Short}
 
 pub taken_is : (w : World) (r j : ℕ) → taken_answer w r j ≡ true → Is w r j
 unfolding taken_answer present
 taken_is w r j e =
-    let (l, h) = within_true 1 w.used j (and_left _ _ e) in
-    let e1 = and_right (within 1 w.used j) _ e in
-    let e2 = and_right (eqb (message w j).kind ANSWER) _ e1 in
-    record { low = l; below = h; is = eqb-true _ _ (and_left _ _ e1); taken = and_left _ _ e2; request = eqb-true _ _ (and_right (message w j).taken _ e2) }
+    let (l, h) = within_true 1 w.used j (first_so _ _ e) in
+    let e1 = second_so (within 1 w.used j) _ e in
+    let e2 = second_so (eqb (message w j).kind ANSWER) _ e1 in
+    record { low = l; below = h; is = eqb-true _ _ (first_so _ _ e1); taken = first_so _ _ e2; request = eqb-true _ _ (second_so (message w j).taken _ e2) }
 
 pub is_taken_lem : (w : World) (r j : ℕ) → Is w r j → taken_answer w r j ≡ true
 unfolding taken_answer present
 is_taken_lem w r j i =
-    and_both _ _ (is_within 1 w.used j i.low i.below) (and_both _ _ (eq-eqb _ _ i.is) (and_both _ _ i.taken (eq-eqb _ _ i.request)))
+    and_from _ _ (is_within 1 w.used j i.low i.below) (and_from _ _ (eq-eqb _ _ i.is) (and_from _ _ i.taken (eq-eqb _ _ i.request)))
 
 pub not_taken : (w : World) (r j : ℕ) → (Is w r j → ⊥) → taken_answer w r j ≡ false
-not_taken w r j f = go (by_bool (taken_answer w r j))
-  where
-    go : (taken_answer w r j ≡ true) ⊎ (taken_answer w r j ≡ false) → taken_answer w r j ≡ false
-    go (inl e) = absurd (f (taken_is w r j e))
-    go (inr e) = e
+not_taken w r j f = false_from_ne_true _ (λ e. f (taken_is w r j e))
 
 pub answers_fit_lem : (w : World) (q : ℕ) (ks : List ℕ) → all (taken_answer w q) ks ≡ true → all (within 1 w.used) ks ≡ true
 answers_fit_lem w q ks = all_map (taken_answer w q) (within 1 w.used) ks (λ j e. let i = taken_is w q j e in is_within 1 w.used j i.low i.below)
@@ -197,21 +196,13 @@ module _ {w : World} {k r : ℕ} (u : Untaken w k r) where
   unfolding all any distinct
   chain_new c =
       chained_of v r (short_on (record { low = u.from; below = u.to; full = u.full; asked = u.asked }))
-      (rw (chain_head c) (and_both _ _ (is_taken_lem v r k is_new) (all_map (taken_answer w r) (taken_answer v r) (chain w r) (λ j e. is_taken_lem v r j (is_on (taken_is w r j e))) c.only)))
+      (rw (chain_head c) (and_from _ _ (is_taken_lem v r k is_new) (all_map (taken_answer w r) (taken_answer v r) (chain w r) (λ j e. is_taken_lem v r j (is_on (taken_is w r j e))) c.only)))
       (λ j l b t. rw (chain_head c) (go j l b t (ℕ_discrete j k)))
-      (rw (chain_head c) (and_both _ _ (ap not (outside (taken_answer w r) (chain w r) k c.only (not_taken w r k (λ i. clash i.taken u.free)))) c.once))
+      (rw (chain_head c) (and_from _ _ (ap not (outside (taken_answer w r) (chain w r) k c.only (not_taken w r k (λ i. clash i.taken u.free)))) c.once))
     where
-      first : (a b : Bool) → a ≡ true → (a || b) ≡ true
-      first true b e = refl
-      first false b e = clash e refl
-
-      second : (a b : Bool) → b ≡ true → (a || b) ≡ true
-      second true b e = refl
-      second false b e = e
-
       go : (j : ℕ) → 1 ≤ j → j ≤ v.used → taken_answer v r j ≡ true → Dec (j ≡ k) → (eqb j k || any (eqb j) (chain w r)) ≡ true
-      go j l b t (yes e) = first (eqb j k) _ (eq-eqb j k e)
-      go j l b t (no e) = second (eqb j k) _ (c.every j l (omega (arith, v_used)) (is_taken_lem w r j (is_back e (taken_is v r j t))))
+      go j l b t (yes e) = or_left (eqb j k) _ (eq-eqb j k e)
+      go j l b t (no e) = or_right (eqb j k) _ (c.every j l (omega (arith, v_used)) (is_taken_lem w r j (is_back e (taken_is v r j t))))
 
   pub link_chained : (q : ℕ) → Short w q → Chained w q → Chained v q
   link_chained q h c = go (ℕ_discrete q r)

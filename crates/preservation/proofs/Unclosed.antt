@@ -4,7 +4,8 @@ use Rattle.std.specs.Prelude.{ℕ, zero, suc, ◌+◌, ◌≤◌, ◌<◌, Bool,
 use Rattle.std.proofs.Common.{arith, sym, ◌∙◌, inl, inr, eqb-true, eq-eqb}
 use Rattle.std.proofs.Math.Bool.{true, false}
 use Rattle.std.proofs.Math.Path.{refl, ap, subst}
-use Rattle.std.proofs.lemmas.Bool.{eqb-false, lt-leb, not-true}
+use Rattle.std.proofs.lemmas.Bool.{eqb-false, lt-leb, not-true, cases_Bool}
+use Rattle.std.specs.Cmp.{first_so, second_so}
 use Rattle.protocol.specs.declared.MessageNumber.{MessageNumber}
 use Rattle.protocol.specs.declared.Entry.{Entry}
 use Rattle.protocol.specs.declared.View.{View}
@@ -24,7 +25,7 @@ use Rattle.protocol.specs.Worlds.{World, view, server, client, message, newest, 
 use Rattle.protocol.specs.Chains.{follow, chain, tagged, heard, enough}
 use Rattle.protocol.specs.Steps.{After, moved, request, answer, answers, begins, deliver, link, open?, taken_with, closes, starts, takes, take, fault, source?, lie, new_view, emptied, planned, restarts, gives_up, view_asked, step}
 use Rattle.protocol.specs.Readable.{last_view, taken_answer}
-use Rattle.protocol.proofs.Laws.Tests.{and_left, and_right, by_bool, clash}
+use Rattle.protocol.proofs.Laws.Tests.{clash}
 use Rattle.protocol.proofs.Laws.Sizes.{sizes}
 use Rattle.protocol.proofs.Laws.Worlds.{content, sent, sent_link, message_send, message_new, view_other}
 use Rattle.protocol.proofs.Laws.Formed.{Formed}
@@ -53,9 +54,9 @@ pub heard_on : (w v : World) (t : ℕ) (p : ℕ → Bool) → ((k : ℕ) → p k
 unfolding heard any all sent content
 heard_on w v t p f [] a s = refl
 heard_on w v t p f (k ∷ ks) a s =
-    let e = f k (and_left _ _ a) in
+    let e = f k (first_so _ _ a) in
     let x : (tagged v t k && eqb (message v k).sender s) ≡ (tagged w t k && eqb (message w k).sender s) = ap (λ (m : Message). eqb m.view.0 t && eqb m.sender s) e in
-    rw (x, heard_on w v t p f ks (and_right (p k) _ a) s) refl
+    rw (x, heard_on w v t p f ks (second_so (p k) _ a) s) refl
 
 pub enough_on : (w v : World) (t size : ℕ) (p : ℕ → Bool) → ((k : ℕ) → p k ≡ true → sent v k ≡ sent w k) → (ks : List ℕ) → all p ks ≡ true → enough v t ks size ≡ enough w t ks size
 unfolding enough
@@ -209,7 +210,7 @@ module _ {w : World} (h : Formed w) (g : Unclosed w) where
     -- an answer to END that does not close it
     module _ (o : end_of w.administrator.ending ≡ r) (n : (eqb t (newest w) && enough w t (taken_with w k) (write_size (view w t))) ≡ false) where
       few_with : (q : MessageNumber) → w.administrator.ending ≡ Some q → enough w (newest w) (k ∷ chain w r) (write_size (view w (newest w))) ≡ false
-      few_with q e = go (by_bool (eqb t (newest w)))
+      few_with q e = go (cases_Bool (eqb t (newest w)))
         where
           j : q.0 ≡ r
           j = sym (ap end_of e) ∙ o
@@ -247,7 +248,7 @@ module _ {w : World} (h : Formed w) (g : Unclosed w) where
   unfolding take
   take_keeps k =
       yields_guard _ _ _ (λ p. yields_guard _ _ _ (λ o.
-      takes_keeps (untaken h k p (not-true _ (and_left (not (message w k).taken) _ o))) refl (and_right (not (message w k).taken) _ o)))
+      takes_keeps (untaken h k p (not-true _ (first_so (not (message w k).taken) _ o))) refl (second_so (not (message w k).taken) _ o)))
 
 -- an END without taken answers
 bare_unclosed : (v : World) (r : ℕ) → v.administrator.ending ≡ Some (number r) → (message v r).next.0 ≡ 0 → 1 ≤ write_size (view v (newest v)) → Unclosed v

@@ -6,12 +6,13 @@ use native.Mathlib.Omega.{arith}
 use Rattle.std.specs.Prelude.{Bool, not, ◌&&◌, ◌||◌, ◌≡◌, ◌⊎◌, ◌≢◌, length, ltb, leb, eqb, Some}
 use Rattle.std.proofs.Math.Bool.{true, false}
 use Rattle.std.proofs.Math.Path.{refl, sym, ap, subst}
-use Rattle.std.proofs.Common.{ap₂, ◌∙◌, pow_mono, ltb-true, leb-true, lt-ltb, le-leb, eq-eqb}
+use Rattle.std.proofs.Common.{ap₂, lt_of_lt_of_le, ◌∙◌, pow_mono, ltb-true, leb-true, lt-ltb, le-leb, eq-eqb}
 use Rattle.std.proofs.Math.Logic.{inl, inr}
 use mathlib.Core.List.{List, [], ◌∷◌}
 use Rattle.std.proofs.Math.ListN.{length-set}
 use Rattle.std.proofs.Math.Seq.{get_or-set_other}
-use Rattle.std.proofs.lemmas.Bool.{lt-leb, not-true}
+use Rattle.std.proofs.lemmas.Bool.{lt-leb, not-true, and_from, cases_Bool, or_left, or_right}
+use Rattle.std.specs.Cmp.{first_so, second_so}
 use Rattle.protocol.specs.declared.ViewNumber.{ViewNumber}
 use Rattle.protocol.specs.declared.MessageNumber.{MessageNumber}
 use Rattle.protocol.specs.declared.View.{View}
@@ -29,13 +30,16 @@ use Rattle.protocol.specs.Worlds.{World, no_message, view, server, client, messa
 use Rattle.protocol.specs.Chains.{follow, chain}
 use Rattle.protocol.specs.Steps.{link, emptied}
 use Rattle.protocol.specs.Readable.{is_sent, ending_fits, last_view, zero_view, view_fits, server_fits, phase_fits, client_range, client_fits, tag_rule, request_fits, next_fits, entry_zero, sender_fits, sent_fits, zero_message, message_fits, taken_answer, distinct}
-use Rattle.protocol.proofs.Laws.Tests.{and_left, and_right, and_both, by_bool, clash, within_true, bit_le, or_first, or_second}
+use Rattle.protocol.proofs.Laws.Tests.{clash}
 use Rattle.protocol.proofs.Laws.Worlds.{content, sent, length_replace, message_new, sent_send, sent_link, server_same, server_other, client_same, client_other, view_same, view_other, count_as}
 use Rattle.protocol.proofs.Laws.Sound.{link_count, link_used, not_answer}
 use Rattle.protocol.proofs.Laws.Formed.{Formed}
+use Rattle.protocol.proofs.Laws.Counts.{bit_le}
+use Rattle.protocol.proofs.Laws.Lists.{all_map}
+use Rattle.protocol.proofs.Laws.Moves.{present_is}
 use Rattle.preservation.proofs.Formed.{and_first, and_then, Onward, ending_on, phase_on, sent_on, fits_on}
 use Rattle.preservation.specs.Chained.{Chained}
-use Rattle.preservation.proofs.Chained.{chained, chain_fits_lem, all_map, follow_same}
+use Rattle.preservation.proofs.Chained.{chained, chain_fits_lem, follow_same}
 use Rattle.preservation.specs.Links.{Untaken, Is, Short}
 use Rattle.preservation.proofs.Links.{taken_is, is_taken_lem, chained_of, link_taken_other, v_taken, v_kind, v_other, link_chained}
 use Rattle.preservation.specs.Emptied.{Rooted}
@@ -50,12 +54,9 @@ server_ok n a =
 
 pub server_more : (m n : ℕ) (a : Server) → m ≤ n → server_ok m a ≡ true → server_ok n a ≡ true
 server_more m n a l e =
-    let p : a.view.0 ≤ n = omega (arith, leb-true a.view.0 m (and_left _ _ e)) in
-    let r = and_right (leb a.view.0 m) _ e in
-    and_both _ _ (le-leb _ _ p) (and_first (ltb a.keys.0 (2 ^ m)) _ (ltb a.keys.0 (2 ^ n)) (λ k. lt-ltb _ _ (keys (ltb-true _ _ k) (pow_mono l))) r)
-  where
-    keys : {x y z : ℕ} → x < y → y ≤ z → x < z
-    keys h k = omega arith
+    let p : a.view.0 ≤ n = omega (arith, leb-true a.view.0 m (first_so _ _ e)) in
+    let r = second_so (leb a.view.0 m) _ e in
+    and_from _ _ (le-leb _ _ p) (and_first (ltb a.keys.0 (2 ^ m)) _ (ltb a.keys.0 (2 ^ n)) (λ k. lt-ltb _ _ (lt_of_lt_of_le (ltb-true _ _ k) (pow_mono l))) r)
 
 -- message n of w was sent, or is zero
 pub mail_sent : {w : World} → Formed w → (n : ℕ) → 1 ≤ n → n ≤ w.used → sent_fits w (message w n) ≡ true
@@ -80,14 +81,10 @@ pub request_of_lem : {w : World} → Formed w → (n : ℕ) → 1 ≤ n → n �
 unfolding sent_fits
 request_of_lem {w} h n l u k =
     let e = mail_sent h n l u in
-    let e1 = and_right (within READ ANSWER (message w n).kind) _ e in
-    let e2 = and_right (sender_fits (message w n).kind (message w n).sender) _ e1 in
-    let e3 = and_right (tag_rule (newest w) (message w n).kind (message w n).view.0) _ e2 in
-    rw (eq-eqb _ _ k) at (and_left (request_fits w (message w n)) _ e3)
-
-pub present_is : (w : World) (n : ℕ) → present w n ≡ true → (1 ≤ n) × (n ≤ w.used)
-unfolding present
-present_is w n e = within_true 1 w.used n e
+    let e1 = second_so (within READ ANSWER (message w n).kind) _ e in
+    let e2 = second_so (sender_fits (message w n).kind (message w n).sender) _ e1 in
+    let e3 = second_so (tag_rule (newest w) (message w n).kind (message w n).view.0) _ e2 in
+    rw (eq-eqb _ _ k) at (first_so (request_fits w (message w n)) _ e3)
 
 taken_same : (w v : World) → ((n : ℕ) → message v n ≡ message w n) → v.used ≡ w.used → (q k : ℕ) → taken_answer v q k ≡ taken_answer w q k
 unfolding taken_answer present
@@ -278,7 +275,7 @@ module _ {w : World} (h : Formed w) (m : Message) (l : w.used < messages) (f : s
       (rw e refl) (λ k a b j. absurd (none k (taken_is w (w.used + 1) k (taken_back (w.used + 1) k j)))) (rw e refl)
     where
       none : (k : ℕ) → Is w (w.used + 1) k → ⊥
-      none k i = let (a, b) = present_is w (message w k).request.0 (and_left _ _ (request_of_lem h k i.low i.below i.is)) in omega (arith, i.request)
+      none k i = let (a, b) = present_is w (message w k).request.0 (first_so _ _ (request_of_lem h k i.low i.below i.is)) in omega (arith, i.request)
 
   pub formed_send : Formed after
   unfolding send view_fits last_view view server_fits server client
@@ -313,17 +310,17 @@ module _ {w : World} (h : Formed w) (m : Message) (l : w.used < messages) (f : s
 refit : (w : World) (m n : Message) → content n ≡ content m → (m.kind ≡ ANSWER) ⊎ (n.taken ≡ m.taken) → next_fits n ≡ true → sent_fits w m ≡ true → sent_fits w n ≡ true
 unfolding sent_fits content
 refit w m n c t x e =
-    let e1 = and_right (within READ ANSWER m.kind) _ e in
-    let e2 = and_right (sender_fits m.kind m.sender) _ e1 in
-    let e3 = and_right (tag_rule (newest w) m.kind m.view.0) _ e2 in
-    let e4 = and_right (request_fits w m) _ e3 in
-    let e5 = and_right (next_fits m) _ e4 in
-    and_both _ _ (ap (λ (y : Message). within READ ANSWER y.kind) c ∙ and_left _ _ e)
-    (and_both _ _ (ap (λ (y : Message). sender_fits y.kind y.sender) c ∙ and_left _ _ e1)
-    (and_both _ _ (ap (λ (y : Message). tag_rule (newest w) y.kind y.view.0) c ∙ and_left _ _ e2)
-    (and_both _ _ (asked t (and_left _ _ e3))
-    (and_both _ _ x
-    (and_both _ _ (ap (λ (y : Message). entry_zero y) c ∙ and_left (entry_zero m) _ e5) (ap (λ (y : Message). entry_fits y.entry) c ∙ and_right (entry_zero m) _ e5))))))
+    let e1 = second_so (within READ ANSWER m.kind) _ e in
+    let e2 = second_so (sender_fits m.kind m.sender) _ e1 in
+    let e3 = second_so (tag_rule (newest w) m.kind m.view.0) _ e2 in
+    let e4 = second_so (request_fits w m) _ e3 in
+    let e5 = second_so (next_fits m) _ e4 in
+    and_from _ _ (ap (λ (y : Message). within READ ANSWER y.kind) c ∙ first_so _ _ e)
+    (and_from _ _ (ap (λ (y : Message). sender_fits y.kind y.sender) c ∙ first_so _ _ e1)
+    (and_from _ _ (ap (λ (y : Message). tag_rule (newest w) y.kind y.view.0) c ∙ first_so _ _ e2)
+    (and_from _ _ (asked t (first_so _ _ e3))
+    (and_from _ _ x
+    (and_from _ _ (ap (λ (y : Message). entry_zero y) c ∙ first_so (entry_zero m) _ e5) (ap (λ (y : Message). entry_fits y.entry) c ∙ second_so (entry_zero m) _ e5))))))
   where
     asked : (m.kind ≡ ANSWER) ⊎ (n.taken ≡ m.taken) → request_fits w m ≡ true → request_fits w n ≡ true
     asked (inl k) e =
@@ -335,10 +332,10 @@ next_fits_lem : (w : World) (n : ℕ) → sent_fits w (message w n) ≡ true →
 unfolding sent_fits
 next_fits_lem w n e =
     let m = message w n in
-    let e1 = and_right (within READ ANSWER m.kind) _ e in
-    let e2 = and_right (sender_fits m.kind m.sender) _ e1 in
-    let e3 = and_right (tag_rule (newest w) m.kind m.view.0) _ e2 in
-    and_left (next_fits m) _ (and_right (request_fits w m) _ e3)
+    let e1 = second_so (within READ ANSWER m.kind) _ e in
+    let e2 = second_so (sender_fits m.kind m.sender) _ e1 in
+    let e3 = second_so (tag_rule (newest w) m.kind m.view.0) _ e2 in
+    first_so (next_fits m) _ (second_so (request_fits w m) _ e3)
 
 same_content : (w : World) (k n : ℕ) → content (message (link w k) n) ≡ content (message w n)
 unfolding sent
@@ -364,8 +361,8 @@ module _ {w : World} (h : Formed w) {k r : ℕ} (u : Untaken w k r) where
       marks (no q) = inr (link_taken_other w k n q)
 
       nexts : Dec (n ≡ k) → Dec (n ≡ r) → next_fits (message (link w k) n) ≡ true
-      nexts (yes q) d = or_first _ _ (or_second (is_request (message (link w k) n).kind) _ (ap (λ (x : ℕ). (message (link w k) x).taken) q ∙ v_taken u))
-      nexts (no q) (yes d) = or_first _ _ (or_first _ _ (ap is_request (v_kind u n) ∙ ap (λ (x : ℕ). is_request (message w x).kind) d ∙ u.asked))
+      nexts (yes q) d = or_left _ _ (or_right (is_request (message (link w k) n).kind) _ (ap (λ (x : ℕ). (message (link w k) x).taken) q ∙ v_taken u))
+      nexts (no q) (yes d) = or_left _ _ (or_left _ _ (ap is_request (v_kind u n) ∙ ap (λ (x : ℕ). is_request (message w x).kind) d ∙ u.asked))
       nexts (no q) (no d) = ap next_fits (v_other u n q d) ∙ next_fits_lem w n (mail_sent h n a b)
 
   pub formed_link : Formed (link w k)
@@ -395,10 +392,10 @@ pub request_free : {w : World} → Formed w → (r : ℕ) → 1 ≤ r → r ≤ 
 unfolding sent_fits
 request_free {w} h r l u k =
     let m = message w r in
-    let e1 = and_right (within READ ANSWER m.kind) _ (mail_sent h r l u) in
-    let e2 = and_right (sender_fits m.kind m.sender) _ e1 in
-    let e3 = and_right (tag_rule (newest w) m.kind m.view.0) _ e2 in
-    not-true _ (and_left _ _ (rw (not_answer m.kind k) at (and_left (request_fits w m) _ e3)))
+    let e1 = second_so (within READ ANSWER m.kind) _ (mail_sent h r l u) in
+    let e2 = second_so (sender_fits m.kind m.sender) _ e1 in
+    let e3 = second_so (tag_rule (newest w) m.kind m.view.0) _ e2 in
+    not-true _ (first_so _ _ (rw (not_answer m.kind k) at (first_so (request_fits w m) _ e3)))
 
 module _ {w : World} (h : Formed w) {r : ℕ} (f : Rooted w r) where
   emptied_newest : newest (emptied w r) ≡ newest w
@@ -412,7 +409,7 @@ module _ {w : World} (h : Formed w) {r : ℕ} (f : Rooted w r) where
   unfolding sent content
   emptied_fits n a b =
       fits_on emptied_onward (message (emptied w r) n) (refit w (message w n) (message (emptied w r) n) (emptied_sent f n)
-      (marks (by_bool (among f n))) (nexts (by_bool (among f n))) (mail_sent h n a b))
+      (marks (cases_Bool (among f n))) (nexts (cases_Bool (among f n))) (mail_sent h n a b))
     where
       free : (n ≡ r) ⊎ Is w r n → (message (emptied w r) n).taken ≡ false → ((message w n).kind ≡ ANSWER) ⊎ ((message (emptied w r) n).taken ≡ (message w n).taken)
       free (inl q) t = inr (t ∙ sym (request_free h n a b (subst (λ (x : ℕ). is_request (message w x).kind ≡ true) (sym q) f.short.asked)))
@@ -423,7 +420,7 @@ module _ {w : World} (h : Formed w) {r : ℕ} (f : Rooted w r) where
       marks (inr e) = inr (ap (λ (m : Message). m.taken) (emptied_out f n e))
 
       nexts : (among f n ≡ true) ⊎ (among f n ≡ false) → next_fits (message (emptied w r) n) ≡ true
-      nexts (inl e) = or_second (is_request (message (emptied w r) n).kind || (message (emptied w r) n).taken) _ (eq-eqb _ _ (ap (λ (m : Message). m.next.0) (emptied_in f n e)))
+      nexts (inl e) = or_right (is_request (message (emptied w r) n).kind || (message (emptied w r) n).taken) _ (eq-eqb _ _ (ap (λ (m : Message). m.next.0) (emptied_in f n e)))
       nexts (inr e) = ap next_fits (emptied_out f n e) ∙ next_fits_lem w n (mail_sent h n a b)
 
   pub formed_emptied : Formed (emptied w r)
@@ -466,7 +463,7 @@ module _ {w : World} (h : Formed w) (r : MessageNumber) (e : w.administrator.end
   raised_last = rw e (omega arith)
 
   raised_high : newest w + 1 ≤ views
-  raised_high = let q = rw e at h.ending in omega (arith, ltb-true (newest w) views (and_left _ _ q))
+  raised_high = let q = rw e at h.ending in omega (arith, ltb-true (newest w) views (first_so _ _ q))
 
   raised_view : (t : ℕ) → view_fits w t ≡ true → view_fits raised t ≡ true
   raised_view t = views_kept w raised t (same_view t) raised_last
@@ -568,7 +565,7 @@ module _ {w : World} (h : Formed w) (v : View) (a : Administrator) (z : sized v 
   called_ending : ending_fits called called.administrator.ending ≡ true
   called_ending =
       subst (λ (x : Ending). ending_fits called x ≡ true) (sym is_ending_lem)
-      (and_both _ _ (lt-ltb _ _ below) (and_both _ _ called_sent (eq-eqb _ _ tag)))
+      (and_from _ _ (lt-ltb _ _ below) (and_from _ _ called_sent (eq-eqb _ _ tag)))
     where
       below : newest called < views
       below = omega (arith, called_newest)

@@ -1,6 +1,7 @@
 -- The laws of the definitions: callers use these and not the definitions' text.
 pub mod Tests
-pub mod Loops
+pub mod Counts
+pub mod Lists
 pub mod Formed
 pub mod Bits
 pub mod Sizes

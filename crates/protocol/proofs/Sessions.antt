@@ -105,7 +105,7 @@ worked_answer = refl
 
 -- ---- document 01's wrong ideas, on servers 1 to 4 with f 1
 
-four : fresh 15 1 0 ≡ done (begun 15 1)
+pub four : fresh 15 1 0 ≡ done (begun 15 1)
 unfolding fresh run_of
 four = refl
 

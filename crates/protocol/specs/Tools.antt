@@ -23,6 +23,11 @@ unfoldable pub all_to : (ℕ → Bool) → ℕ → Bool
 all_to p zero = true
 all_to p (suc n) = all_to p n && p (suc n)
 
+-- whether one of the numbers 1 to n passes p
+unfoldable pub some_to : (ℕ → Bool) → ℕ → Bool
+some_to p zero = false
+some_to p (suc n) = some_to p n || p (suc n)
+
 -- the sum of g 1 to g n
 unfoldable pub sum_to : (ℕ → ℕ) → ℕ → ℕ
 sum_to g zero = 0
@@ -75,18 +80,13 @@ abbrev pub number_of : {A : Type 0} → Result A → ℕ
 number_of (refused n) = n
 number_of (done a) = 0
 
+pub same_done : {A : Type 0} {x y : A} → done x ≡ done y → x ≡ y
+same_done e = cc
+
 pub passed : {A : Type 0} (b : Bool) (n : ℕ) (x : Result A) (v : A) → guard b n x ≡ done v → (b ≡ true) × (x ≡ done v)
 unfolding guard
 passed true n x v e = (refl, e)
 passed false n x v e = (cc, cc)
-
--- tests that pass together, taken apart and put together
-pub both : (a b : Bool) → a && b ≡ true → (a ≡ true) × (b ≡ true)
-both true b e = (refl, e)
-both false b e = (cc, cc)
-
-pub join : {a b : Bool} → a ≡ true → b ≡ true → a && b ≡ true
-join p q = rw (p, q)
 
 -- an answer found test by test: a test of a row passes and the rest decides
 pub pass : {a b r : Bool} → a ≡ true → r ≡ b → r ≡ a && b

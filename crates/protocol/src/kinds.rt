@@ -1,5 +1,6 @@
 // The kinds of messages, of a client's operation and of steps. The bytes of an image, of a step and of a record may hold any number
 // where a kind stands, which the tests of those bytes refuse: so the records keep the number, and what a rule does goes by its kind.
+// From and TryFrom are written out, kind by kind: no library of the kit derives them, and an impl by a macro of one's own is refused.
 ghost use Rattle.std.specs.Prelude.{◌≡◌};
 ghost use Rattle.protocol.specs.Kinds.{message_code, named_message, operation_code, named_operation, step_code, named_step};
 

@@ -2,7 +2,7 @@
 #![tactic(auto)]
 
 ghost use Rattle.std.specs.Prelude.{◌≡◌, eqb};
-ghost use Rattle.protocol.specs.Kinds.{message_code, operation_code};
+ghost use Rattle.protocol.specs.Kinds.{message_code, operation_code, step_code};
 ghost use Rattle.protocol.specs.Servers.{is_request};
 ghost use Rattle.protocol.specs.Clients.{is_idle, request_of, end_of};
 
@@ -99,7 +99,7 @@ pub struct Client {
 }
 
 impl Client {
-    // Whether its operation is that one.
+    // Whether its operation is that one; as of a message.
     pub fn is_on(self, operation: Operation) -> bool
         ensures { result ≡ eqb self.kind (operation_code operation) }
     {
@@ -136,7 +136,7 @@ pub struct Message {
 }
 
 impl Message {
-    // Whether it is of that kind.
+    // Whether it is of that kind. Each record asks it of its own field: a trait over the field would be longer than the bodies.
     pub fn is(self, kind: MessageKind) -> bool
         ensures { result ≡ eqb self.kind (message_code kind) }
     {
@@ -161,6 +161,15 @@ pub struct Step {
     pub message: MessageNumber,
     pub source: MessageNumber,
     pub value: u32,
+}
+
+impl Step {
+    // Whether it is of that kind; as of a message.
+    pub fn is(self, step: StepKind) -> bool
+        ensures { result ≡ eqb self.kind (step_code step) }
+    {
+        self.kind == u8::from(step)
+    }
 }
 
 // The values that a used field of a step may have.
@@ -191,7 +200,8 @@ pub struct Choice {
     pub one: bool,
 }
 
-// A client's phase closes: a WRITE of its entry is next, or its operation is complete.
+// A client's phase closes: a WRITE of its entry is next, or its operation is complete. Both are answers, and a refusal is the
+// `Err` around it.
 #[derive(Clone, Copy, Debug, PartialEq, Eq)]
 pub enum Closing {
     WritesNext(Client),

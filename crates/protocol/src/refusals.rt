@@ -55,6 +55,7 @@ pub enum Refusal {
 }
 
 impl Refusal {
+    // The documents number the refusals: the name reads plainer than a conversion in the arms that answer C.
     pub fn number(self) -> u8
         ensures { result ≡ refusal_number self }
     {

@@ -12,9 +12,11 @@ use Rattle.std.proofs.Math.ListN.{drop}
 use Rattle.std.specs.Int.Bits.{bit_or, or_zero_l, or_add_and}
 use Rattle.std.specs.List.{fold}
 use Rattle.std.proofs.lemmas.Nat.{and_le_l, and_le_r}
+use Rattle.std.proofs.lemmas.Bool.{and_parts, and_from}
+use Rattle.std.specs.Cmp.{both_ways}
 use borrow.Author.Tests.{eqb-true, eq-eqb, lt-leb, not-true}
 use Rattle.protocol.specs.declared.Message.{Message}
-use Rattle.protocol.specs.Tools.{all_to, all, both, join}
+use Rattle.protocol.specs.Tools.{all_to, all}
 use Rattle.protocol.specs.Sizes.{messages}
 use Rattle.protocol.specs.Entries.{count_of, writer_of, same}
 use Rattle.protocol.specs.Readable.{zero_message}
@@ -26,7 +28,6 @@ use Rattle.codec.specs.Places.{used_at, message_at}
 use Rattle.codec.specs.Laws.{message_decode}
 use Rattle.codec.specs.Spelling.{message_plain_lem}
 use Rattle.codec.specs.Whole.{message_plain_at}
-use Rattle.readable.specs.Tests.{as_one}
 use Rattle.readable.specs.Scan.{first_ok, message_ok, beyond_rule}
 
 -- every byte is zero
@@ -36,16 +37,17 @@ zero_bytes b = all (λ x. eqb x 0) b
 -- ---- bytes joined one after another
 
 -- two numbers joined are zero where both are
+-- The kit has it in proofs of its own, which std does not hand on.
 or_zero : (a b : ℕ) → eqb (bit_or a b) 0 ≡ eqb a 0 && eqb b 0
 or_zero a b =
-    as_one (eqb (bit_or a b) 0) (eqb a 0 && eqb b 0)
+    both_ways (eqb (bit_or a b) 0) (eqb a 0 && eqb b 0)
     (λ e.
     let z = eqb-true (bit_or a b) 0 e in
     let s = or_add_and a b in
     let l = and_le_l a b in
     let r = and_le_r a b in
-    join (eq-eqb a 0 (omega arith)) (eq-eqb b 0 (omega arith)))
-    (λ e. let p = both (eqb a 0) (eqb b 0) e in rw (eqb-true a 0 p.0, eqb-true b 0 p.1) (ap (λ (n : ℕ). eqb n 0) (or_zero_l 0)))
+    and_from _ _ (eq-eqb a 0 (omega arith)) (eq-eqb b 0 (omega arith)))
+    (λ e. let p = and_parts (eqb a 0) (eqb b 0) e in rw (eqb-true a 0 p.0, eqb-true b 0 p.1) (ap (λ (n : ℕ). eqb n 0) (or_zero_l 0)))
 
 zero_append : (a b : List ℕ) → zero_bytes (a ++ b) ≡ zero_bytes a && zero_bytes b
 unfolding zero_bytes all
@@ -66,19 +68,19 @@ zero_joined b = sym (joined b 0)
 zeros : (b : List ℕ) → zero_bytes b ≡ true → b ≡ replicate (length b) 0
 unfolding zero_bytes all
 zeros [] e = refl
-zeros (x ∷ b) e = let p = both (eqb x 0) (zero_bytes b) e in ap₂ (λ (y : ℕ) (r : List ℕ). y ∷ r) (eqb-true x 0 p.0) (zeros b p.1)
+zeros (x ∷ b) e = let p = and_parts (eqb x 0) (zero_bytes b) e in ap₂ (λ (y : ℕ) (r : List ℕ). y ∷ r) (eqb-true x 0 p.0) (zeros b p.1)
 
 zero_spelled : (m : Message) → zero_message m ≡ true → message_bytes m ≡ replicate message_width 0
 unfolding zero_message same message_bytes entry_bytes
 zero_spelled m e =
-    let a = both (eqb m.kind 0) _ e in
-    let b = both (eqb m.sender 0) _ a.1 in
-    let c = both (eqb m.view.0 0) _ b.1 in
-    let d = both (not m.taken) _ c.1 in
-    let f = both (eqb m.request.0 0) _ d.1 in
-    let g = both (eqb m.next.0 0) _ f.1 in
-    let h = both (eqb (count_of m.entry) 0) _ g.1 in
-    let k = both (eqb (writer_of m.entry) 0) _ h.1 in
+    let a = and_parts (eqb m.kind 0) _ e in
+    let b = and_parts (eqb m.sender 0) _ a.1 in
+    let c = and_parts (eqb m.view.0 0) _ b.1 in
+    let d = and_parts (not m.taken) _ c.1 in
+    let f = and_parts (eqb m.request.0 0) _ d.1 in
+    let g = and_parts (eqb m.next.0 0) _ f.1 in
+    let h = and_parts (eqb (count_of m.entry) 0) _ g.1 in
+    let k = and_parts (eqb (writer_of m.entry) 0) _ h.1 in
     simp (
       eqb-true m.kind 0 a.0,
       eqb-true m.sender 0 b.0,
@@ -95,9 +97,9 @@ zero_spelled m e =
 zero_record : (b : List ℕ) → length b ≡ message_width → Bytes b → message_plain b && zero_message (message_of b) ≡ zero_bytes b
 unfolding message_plain entry_plain zeros_from message_of entry_of part zero_message same zero_bytes all
 zero_record b e y =
-    as_one (message_plain b && zero_message (message_of b)) (zero_bytes b)
+    both_ways (message_plain b && zero_message (message_of b)) (zero_bytes b)
     (λ p.
-    let q = both (message_plain b) (zero_message (message_of b)) p in
+    let q = and_parts (message_plain b) (zero_message (message_of b)) p in
     rw (sym (message_plain_lem b e y q.0) ∙ zero_spelled (message_of b) q.1) refl)
     (λ p. rw (zeros b p ∙ ap (λ (n : ℕ). replicate n 0) e) refl)
 

@@ -1,21 +1,25 @@
 -- The clause of the chains, and a test of it that goes along each chain one time. Assumes nothing.
-use Rattle.std.specs.Prelude.{◌≡◌, refl, Bool, true, false, ◌&&◌, ◌||◌, List, [], ◌∷◌, ℕ, suc, ◌≤◌, eqb}
+use Rattle.std.specs.Prelude.{◌≡◌, refl, Bool, true, false, ◌&&◌, ◌||◌, ℕ, suc, ◌≤◌, eqb}
 use Rattle.std.proofs.Math.Path.{sym}
-use Rattle.std.proofs.Common.{ap, ◌∙◌, ⊎_elim, arith}
+use Rattle.std.proofs.Common.{ap, ◌∙◌, arith}
 use Rattle.std.proofs.Math.Bool.{not}
 use Rattle.std.proofs.Math.ListN.{length}
+use Rattle.std.proofs.lemmas.Bool.{and_parts, and_from}
+use Rattle.std.specs.Cmp.{both_ways}
 use borrow.Author.Tests.{eqb-true, eq-eqb, le-leb}
-use Rattle.protocol.specs.Tools.{if, bit, within, count_to, all_to, any, all, both, join, sum_to}
+use Rattle.protocol.specs.Tools.{if, bit, within, count_to, all_to, any, all, sum_to}
 use Rattle.protocol.specs.Sizes.{messages}
 use Rattle.protocol.specs.Servers.{ANSWER, is_request}
 use Rattle.protocol.specs.Worlds.{World, message, present}
 use Rattle.protocol.specs.Chains.{follow, chain}
 use Rattle.protocol.specs.Readable.{taken_answer, distinct, ends, chain_fits, message_fits}
-use Rattle.protocol.proofs.Laws.Tests.{by_test, clash, or_cases, all_to_at, all_to_lem}
-use Rattle.readable.specs.Tests.{as_one, implied}
-use Rattle.key_holders.specs.Counts.{Each, count_mono, count_ext, count_none, count_same, count_one, count_list, sum_same, sum_ext, swap}
+use Rattle.protocol.proofs.Laws.Tests.{by_test, clash, all_to_at, all_to_lem, implies, implied}
+use Rattle.protocol.proofs.Laws.Moves.{present_is}
+use Rattle.protocol.proofs.Laws.Lists.{all_member, all_map}
+use Rattle.protocol.proofs.Laws.Counts.{count_mono}
+use Rattle.key_holders.specs.Counts.{Each, count_ext, count_none, count_same, count_one, count_list, sum_same, sum_ext, swap}
 use Rattle.readable.specs.Links.{Ends, once}
-use Rattle.readable.specs.Formed.{sent_at, taken_answer_lem, in_present, present_in_lem}
+use Rattle.readable.specs.Formed.{sent_at, taken_answer_lem, in_present}
 
 -- the walk from n on meets only taken answers of request r, and ends at zero within the links still allowed
 unfoldable pub sound : World → ℕ → ℕ → ℕ → Bool
@@ -49,11 +53,11 @@ pub record Chain (w : World) (r : ℕ) : Type 0 where
 pub chain_parts : (w : World) (r : ℕ) → chain_fits w r ≡ true → is_request (message w r).kind ≡ true → Chain w r
 unfolding chain_fits ends chain
 chain_parts w r e q =
-    let x = implied (is_request (message w r).kind) (ends w r && (all (taken_answer w r) (chain w r) &&
+    let x = implies (is_request (message w r).kind) (ends w r && (all (taken_answer w r) (chain w r) &&
     (all_to (λ k. not (taken_answer w r k) || any (eqb k) (chain w r)) w.used && distinct (chain w r)))) e q in
-    let a = both (ends w r) (all (taken_answer w r) (chain w r) && (all_to (λ k. not (taken_answer w r k) || any (eqb k) (chain w r)) w.used && distinct (chain w r))) x in
-    let b = both (all (taken_answer w r) (chain w r)) (all_to (λ k. not (taken_answer w r k) || any (eqb k) (chain w r)) w.used && distinct (chain w r)) a.1 in
-    let c = both (all_to (λ k. not (taken_answer w r k) || any (eqb k) (chain w r)) w.used) (distinct (chain w r)) b.1 in
+    let a = and_parts (ends w r) (all (taken_answer w r) (chain w r) && (all_to (λ k. not (taken_answer w r k) || any (eqb k) (chain w r)) w.used && distinct (chain w r))) x in
+    let b = and_parts (all (taken_answer w r) (chain w r)) (all_to (λ k. not (taken_answer w r k) || any (eqb k) (chain w r)) w.used && distinct (chain w r)) a.1 in
+    let c = and_parts (all_to (λ k. not (taken_answer w r k) || any (eqb k) (chain w r)) w.used) (distinct (chain w r)) b.1 in
     record { ended = record { same = eqb-true _ _ a.0 }; only = b.0; every = c.0; once = c.1 }
 
 parts_chain : (w : World) (r : ℕ) → (is_request (message w r).kind ≡ true → Chain w r) → chain_fits w r ≡ true
@@ -62,7 +66,7 @@ parts_chain w r h =
     by_test (is_request (message w r).kind)
     (λ q.
     let c = h q in
-    rw q (join (eq-eqb _ _ c.ended.same) (join c.only (join c.every c.once))))
+    rw q (and_from _ _ (eq-eqb _ _ c.ended.same) (and_from _ _ c.only (and_from _ _ c.every c.once))))
     (λ q. rw q)
 
 pub record Sound (w : World) (r left n : ℕ) : Type 0 where
@@ -72,26 +76,14 @@ pub record Sound (w : World) (r left n : ℕ) : Type 0 where
 pub sound_parts : (w : World) (r left n : ℕ) → sound w r left n ≡ true → Sound w r left n
 unfolding sound
 sound_parts w r left n e =
-    let a = both (all (taken_answer w r) (follow w left n)) (eqb (length (follow w (suc left) n)) (length (follow w left n))) e in
+    let a = and_parts (all (taken_answer w r) (follow w left n)) (eqb (length (follow w (suc left) n)) (length (follow w left n))) e in
     record { only = a.0; ended = record { same = eqb-true _ _ a.1 } }
 
 pub parts_sound : (w : World) (r left n : ℕ) → Sound w r left n → sound w r left n ≡ true
 unfolding sound
-parts_sound w r left n s = join s.only (eq-eqb _ _ s.ended.same)
+parts_sound w r left n s = and_from _ _ s.only (eq-eqb _ _ s.ended.same)
 
 -- ---- lists
-
-all_any : (p : ℕ → Bool) (l : List ℕ) (k : ℕ) → all p l ≡ true → any (eqb k) l ≡ true → p k ≡ true
-unfolding all any
-all_any p [] k a i = clash i refl
-all_any p (x ∷ l) k a i =
-    let b = both (p x) (all p l) a in
-    ⊎_elim (λ e. rw (eqb-true k x e) b.0) (λ j. all_any p l k b.1 j) (or_cases (eqb k x) (any (eqb k) l) i)
-
-all_within : (p q : ℕ → Bool) (l : List ℕ) → ((k : ℕ) → p k ≡ true → q k ≡ true) → all p l ≡ true → all q l ≡ true
-unfolding all
-all_within p q [] h a = refl
-all_within p q (x ∷ l) h a = let b = both (p x) (all p l) a in join (h x b.0) (all_within p q l h b.1)
 
 -- ---- a taken answer
 
@@ -104,27 +96,23 @@ pub record Taken (w : World) (r k : ℕ) : Type 0 where
 pub taken_parts : (w : World) (r k : ℕ) → taken_answer w r k ≡ true → Taken w r k
 unfolding taken_answer
 taken_parts w r k e =
-    let a = both (present w k) (eqb (message w k).kind ANSWER && ((message w k).taken && eqb (message w k).request.0 r)) e in
-    let b = both (eqb (message w k).kind ANSWER) ((message w k).taken && eqb (message w k).request.0 r) a.1 in
-    let c = both (message w k).taken (eqb (message w k).request.0 r) b.1 in
+    let a = and_parts (present w k) (eqb (message w k).kind ANSWER && ((message w k).taken && eqb (message w k).request.0 r)) e in
+    let b = and_parts (eqb (message w k).kind ANSWER) ((message w k).taken && eqb (message w k).request.0 r) a.1 in
+    let c = and_parts (message w k).taken (eqb (message w k).request.0 r) b.1 in
     record { present = a.0; kind = b.0; taken = c.0; request = eqb-true _ _ c.1 }
 
 parts_taken : (w : World) (r k : ℕ) → Taken w r k → taken_answer w r k ≡ true
 unfolding taken_answer
-parts_taken w r k t = join t.present (join t.kind (join t.taken (eq-eqb _ _ t.request)))
-
-held : (a b : Bool) → (a ≡ true → b ≡ true) → not a || b ≡ true
-held true b f = f refl
-held false b f = refl
+parts_taken w r k t = and_from _ _ t.present (and_from _ _ t.kind (and_from _ _ t.taken (eq-eqb _ _ t.request)))
 
 -- ---- the numbers of the links
 
 module _ (w : World) (r : ℕ) where
   within_used : all (taken_answer w r) (chain w r) ≡ true → all (within 1 w.used) (chain w r) ≡ true
-  within_used a = all_within (taken_answer w r) (within 1 w.used) (chain w r) (λ k e. opened k (taken_parts w r k e).present) a
+  within_used a = all_map (taken_answer w r) (within 1 w.used) (chain w r) (λ k e. opened k (taken_parts w r k e).present) a
     where
       opened : (k : ℕ) → present w k ≡ true → within 1 w.used k ≡ true
-      opened k e = let p = present_in_lem w k e in join (le-leb 1 k p.0) (le-leb k w.used p.1)
+      opened k e = let p = present_is w k e in and_from _ _ (le-leb 1 k p.0) (le-leb k w.used p.1)
 
   -- a chain that holds only taken answers, each one time, has as many links as it has members
   members : all (taken_answer w r) (chain w r) ≡ true → distinct (chain w r) ≡ true
@@ -138,8 +126,8 @@ module _ (w : World) (r : ℕ) where
       ∙ count_ext (λ k. any (eqb k) (chain w r)) (taken_answer w r) w.used
       (record {
         one = λ k l m.
-            as_one (any (eqb k) (chain w r)) (taken_answer w r k) (λ i. all_any (taken_answer w r) (chain w r) k c.only i)
-            (λ t. implied (taken_answer w r k) (any (eqb k) (chain w r)) (all_to_at _ w.used k c.every l m) t);
+            both_ways (any (eqb k) (chain w r)) (taken_answer w r k) (λ i. all_member (taken_answer w r) (chain w r) k c.only i)
+            (λ t. implies (taken_answer w r k) (any (eqb k) (chain w r)) (all_to_at _ w.used k c.every l m) t);
       })
 
 -- each taken answer is one of exactly one request
@@ -152,14 +140,14 @@ module _ (w : World) (h : Each w.used (λ k. message_fits w k ≡ true)) where
       by_test (message w k).taken
       (λ t.
       let a = taken_answer_lem w (message w k) (sent_at w k m (h.one k l m)).request t in
-      let p = present_in_lem w (message w k).request.0 a.present in
+      let p = present_is w (message w k).request.0 a.present in
       count_ext (λ r. asks r && taken_answer w r k) (λ r. eqb r (message w k).request.0) w.used
       (record {
         one = λ r x y.
-            as_one (asks r && taken_answer w r k) (eqb r (message w k).request.0)
-            (λ e. eq-eqb r (message w k).request.0 (sym (taken_parts w r k (both (asks r) (taken_answer w r k) e).1).request))
+            both_ways (asks r && taken_answer w r k) (eqb r (message w k).request.0)
+            (λ e. eq-eqb r (message w k).request.0 (sym (taken_parts w r k (and_parts (asks r) (taken_answer w r k) e).1).request))
             (λ e. rw (eqb-true r (message w k).request.0 e)
-            (join a.request
+            (and_from _ _ a.request
             (parts_taken w (message w k).request.0 k
             (record { present = in_present w k l m; kind = eq-eqb (message w k).kind ANSWER a.kind; taken = t; request = refl }))));
       })
@@ -170,7 +158,7 @@ module _ (w : World) (h : Each w.used (λ k. message_fits w k ≡ true)) where
       (record {
         one = λ r x y.
             by_test {P = asks r && taken_answer w r k ≡ false} (asks r && taken_answer w r k)
-            (λ e. clash (taken_parts w r k (both (asks r) (taken_answer w r k) e).1).taken t)
+            (λ e. clash (taken_parts w r k (and_parts (asks r) (taken_answer w r k) e).1).taken t)
             (λ e. e);
       })
       ∙ sym (ap bit t))
@@ -187,7 +175,7 @@ module _ (w : World) (h : Each w.used (λ k. message_fits w k ≡ true)) where
   fit_sound : all_to (chain_fits w) w.used ≡ true → chains_fit w ≡ true
   unfolding chains_fit chain_sound chain
   fit_sound e =
-      join
+      and_from _ _
       (all_to_lem (chain_sound w) w.used
       (λ r l m.
       by_test {P = chain_sound w r ≡ true} (asks r)
@@ -204,11 +192,11 @@ module _ (w : World) (h : Each w.used (λ k. message_fits w k ≡ true)) where
   sound_links : (r : ℕ) → chain_sound w r ≡ true → asks r ≡ true → (all (taken_answer w r) (chain w r) ≡ true) × (distinct (chain w r) ≡ true) × Ends w messages (message w r).next.0
   unfolding chain_sound chain
   sound_links r e q =
-      let s = sound_parts w r messages (message w r).next.0 (implied (asks r) (sound w r messages (message w r).next.0) e q) in
+      let s = sound_parts w r messages (message w r).next.0 (implies (asks r) (sound w r messages (message w r).next.0) e q) in
       (s.only, once w messages (message w r).next.0 s.ended, s.ended)
 
   members_taken : (r : ℕ) → all (taken_answer w r) (chain w r) ≡ true → Each w.used (λ k. any (eqb k) (chain w r) ≡ true → taken_answer w r k ≡ true)
-  members_taken r a = record { one = λ k l m i. all_any (taken_answer w r) (chain w r) k a i }
+  members_taken r a = record { one = λ k l m i. all_member (taken_answer w r) (chain w r) k a i }
 
   links_le : (r : ℕ) → chain_sound w r ≡ true → links w r ≤ if (asks r) (count_to (taken_answer w r) w.used) 0
   unfolding links
@@ -216,7 +204,7 @@ module _ (w : World) (h : Each w.used (λ k. message_fits w k ≡ true)) where
       by_test {P = if (asks r) (length (chain w r)) 0 ≤ if (asks r) (count_to (taken_answer w r) w.used) 0} (asks r)
       (λ q.
       let s = sound_links r e q in
-      rw q (let c = count_mono (λ k. any (eqb k) (chain w r)) (taken_answer w r) w.used (members_taken r s.0) in omega (arith, members w r s.0 s.1)))
+      rw q (let c = count_mono (λ k. any (eqb k) (chain w r)) (taken_answer w r) w.used (members_taken r s.0).one in omega (arith, members w r s.0 s.1)))
       (λ q. rw q (omega arith))
 
   sound_chain : (r : ℕ) → chain_sound w r ≡ true → links w r ≡ if (asks r) (count_to (taken_answer w r) w.used) 0 → asks r ≡ true → Chain w r
@@ -228,14 +216,14 @@ module _ (w : World) (h : Each w.used (λ k. message_fits w k ≡ true)) where
       record {
         ended = s.2;
         only = s.0;
-        every = all_to_lem (λ k. not (taken_answer w r k) || any (eqb k) (chain w r)) w.used (λ k l m. held (taken_answer w r k) (any (eqb k) (chain w r)) (t.one k l m));
+        every = all_to_lem (λ k. not (taken_answer w r k) || any (eqb k) (chain w r)) w.used (λ k l m. implied (taken_answer w r k) (any (eqb k) (chain w r)) (t.one k l m));
         once = s.1;
       }
 
   sound_fit : chains_fit w ≡ true → all_to (chain_fits w) w.used ≡ true
   unfolding chains_fit
   sound_fit e =
-      let a = both (all_to (chain_sound w) w.used) (eqb (sum_to (links w) w.used) (count_to (is_taken w) w.used)) e in
+      let a = and_parts (all_to (chain_sound w) w.used) (eqb (sum_to (links w) w.used) (count_to (is_taken w) w.used)) e in
       let f = eqb-true (sum_to (links w) w.used) (count_to (is_taken w) w.used) a.1 ∙ sym all_taken in
       let s = sum_same (links w) (λ r. if (asks r) (count_to (taken_answer w r) w.used) 0) w.used
       (record { one = λ r l m. links_le r (all_to_at (chain_sound w) w.used r a.0 l m) }) f in
@@ -244,4 +232,4 @@ module _ (w : World) (h : Each w.used (λ k. message_fits w k ≡ true)) where
 
   -- "each chain holds only taken answers of its request, all of them, each one time"
   pub chains_fit_lem : all_to (chain_fits w) w.used ≡ chains_fit w
-  chains_fit_lem = as_one (all_to (chain_fits w) w.used) (chains_fit w) fit_sound sound_fit
+  chains_fit_lem = both_ways (all_to (chain_fits w) w.used) (chains_fit w) fit_sound sound_fit

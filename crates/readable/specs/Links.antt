@@ -1,11 +1,12 @@
 -- A walk along links that ends meets no number twice. Assumes nothing.
 use Rattle.std.specs.Prelude.{◌≡◌, refl, Bool, true, not, ◌⊎◌, List, [], ◌∷◌, ℕ, zero, suc, ◌≤◌, length, eqb}
 use Rattle.std.proofs.Common.{ap, inl, inr, ⊎_elim, arith, eqb-true}
-use Rattle.protocol.specs.Tools.{any, all, both, join}
+use Rattle.std.proofs.lemmas.Bool.{and_parts, and_from, or_cases}
+use Rattle.protocol.specs.Tools.{any, all}
 use Rattle.protocol.specs.Worlds.{World, message}
 use Rattle.protocol.specs.Chains.{follow}
 use Rattle.protocol.specs.Readable.{distinct}
-use Rattle.protocol.proofs.Laws.Tests.{by_test, clash, or_cases}
+use Rattle.protocol.proofs.Laws.Tests.{by_test, clash}
 
 -- one more link allowed meets no more
 pub record Ends (w : World) (left n : ℕ) : Type 0 where
@@ -62,7 +63,7 @@ once w zero n e = refl
 once w (suc left) zero e = refl
 once w (suc left) (suc n) e =
     let t = follow w left (next w (suc n)) in
-    join
+    and_from _ _
     (by_test {P = not (any (eqb (suc n)) t) ≡ true} (any (eqb (suc n)) t)
     (λ i.
     let s = shorter w left (next w (suc n)) (suc left) (suc n) (onward w left n e) (omega arith) i in
@@ -78,7 +79,7 @@ pub first_met : (w : World) (p : ℕ → Bool) (left n : ℕ) → Ends w left n 
 unfolding follow all
 first_met w p left zero e a = inl refl
 first_met w p zero (suc n) e a = stuck w n e
-first_met w p (suc left) (suc n) e a = inr (both (p (suc n)) (all p (follow w left (next w (suc n)))) a).0
+first_met w p (suc left) (suc n) e a = inr (and_parts (p (suc n)) (all p (follow w left (next w (suc n)))) a).0
 
 -- and so is the number behind one that is met
 pub next_met : (w : World) (p : ℕ → Bool) (left n x : ℕ) → Ends w left n → all p (follow w left n) ≡ true → any (eqb x) (follow w left n) ≡ true
@@ -88,7 +89,7 @@ next_met w p zero zero x e a i = clash i refl
 next_met w p (suc left) zero x e a i = clash i refl
 next_met w p zero (suc n) x e a i = stuck w n e
 next_met w p (suc left) (suc n) x e a i =
-    let q = both (p (suc n)) (all p (follow w left (next w (suc n)))) a in
+    let q = and_parts (p (suc n)) (all p (follow w left (next w (suc n)))) a in
     ⊎_elim
     (λ s. rw (eqb-true x (suc n) s) (first_met w p left (next w (suc n)) (onward w left n e) q.1))
     (λ j. next_met w p left (next w (suc n)) x (onward w left n e) q.1 j)

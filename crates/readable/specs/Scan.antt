@@ -1,10 +1,12 @@
 -- Readable, tested record by record on the bytes. Assumes nothing.
 use Rattle.std.specs.Prelude.{◌≡◌, Bool, true, false, ◌&&◌, List, length, leb, eqb, Option, Some, None}
 use Rattle.std.proofs.Common.{sym, ◌∙◌, arith}
+use Rattle.std.proofs.lemmas.Bool.{and_parts, and_from}
+use Rattle.std.specs.Cmp.{both_ways}
 use Prim.Native.Nat.{ℕ, zero, suc, ◌≤◌}
 use borrow.Author.Tests.{eqb-true, eq-eqb, ne_eqb}
 use Rattle.protocol.specs.declared.Message.{Message}
-use Rattle.protocol.specs.Tools.{if, count_to, all_to, both, join, sum_to}
+use Rattle.protocol.specs.Tools.{if, count_to, all_to, sum_to}
 use Rattle.protocol.specs.Sizes.{clients, servers, views, messages}
 use Rattle.protocol.specs.Worlds.{World, message, present}
 use Rattle.protocol.specs.Readable.{view_rule, server_rule, message_rule, last_of, is_asked}
@@ -19,11 +21,11 @@ use Rattle.codec.specs.Records.{header_plain}
 use Rattle.codec.specs.Whole.{Plain, view_plain_at, server_plain_at, client_plain_at, message_plain_at, encode_decode, plain_image}
 use Rattle.protocol.specs.Readable.{view_rule, server_rule, message_rule}
 use Rattle.protocol.proofs.Laws.Tests.{all_to_at, all_to_lem}
-use Rattle.readable.specs.Tests.{as_one}
 use Rattle.key_holders.specs.Counts.{Each}
 use Rattle.key_holders.specs.Holders.{holder_ok, Served}
 use Rattle.protocol.proofs.Laws.Formed.{formed, well_formed_lem, header_of_lem, header_parts}
-use Rattle.readable.specs.Formed.{Headed, headed, present_in_lem}
+use Rattle.protocol.proofs.Laws.Moves.{present_is}
+use Rattle.readable.specs.Formed.{Headed, headed}
 use Rattle.readable.specs.Chains.{chain_sound, links, is_taken, chains_fit, chains_fit_lem, taken_parts}
 use Rattle.readable.specs.Readable.{readable, Read, read, read_back}
 
@@ -65,7 +67,7 @@ pub record Open (i : List ℕ) : Type 0 where
 pub open_header : (i : List ℕ) → length i ≡ image_size → header_ok i ≡ true → Open i
 unfolding header_ok
 open_header i s e =
-    record { size = s; head = headed (decode i) (both (header_plain (part i 0 header_width)) (header_fits (decode i)) e).1 }
+    record { size = s; head = headed (decode i) (and_parts (header_plain (part i 0 header_width)) (header_fits (decode i)) e).1 }
 
 -- message n, if it was sent; and if it is of that kind and sender besides
 abbrev pub sent : World → ℕ → Option Message
@@ -77,7 +79,7 @@ sent_as w n kind sender = if (is_sent w n kind sender) (Some (message w n)) None
 -- a message that was sent has a record
 pub present_used : (i : List ℕ) (n : ℕ) → present (decode i) n ≡ true → used_at i ≤ messages → n ≤ messages
 unfolding decode
-present_used i n e h = let p = present_in_lem (decode i) n e in omega arith
+present_used i n e h = let p = present_is (decode i) n e in omega arith
 
 pub taken_used : (i : List ℕ) (r n : ℕ) → taken_answer (decode i) r n ≡ true → used_at i ≤ messages → n ≤ messages
 taken_used i r n e h = present_used i n (taken_parts (decode i) r n e).present h
@@ -94,7 +96,7 @@ open_high i o = o.head.high
 pub servers_served : (i : List ℕ) → all_to (server_ok i) servers ≡ true → Served (decode i)
 unfolding server_ok
 servers_served i e =
-    record { one = λ s a b. (both (server_plain_at i s) (server_fits (decode i) s) (all_to_at (server_ok i) servers s e a b)).1 }
+    record { one = λ s a b. (and_parts (server_plain_at i s) (server_fits (decode i) s) (all_to_at (server_ok i) servers s e a b)).1 }
 
 -- ---- a record's clause is that of the record in the image
 
@@ -129,13 +131,13 @@ chains_rule i used e = rw (e ∙ sym (used_decode i))
 -- ---- both tests of an image are one
 
 both_all : (p q : ℕ → Bool) (n : ℕ) → ((k : ℕ) → 1 ≤ k → k ≤ n → p k ≡ true) → ((k : ℕ) → 1 ≤ k → k ≤ n → q k ≡ true) → all_to (λ k. p k && q k) n ≡ true
-both_all p q n f g = all_to_lem (λ k. p k && q k) n (λ k a b. join (f k a b) (g k a b))
+both_all p q n f g = all_to_lem (λ k. p k && q k) n (λ k a b. and_from _ _ (f k a b) (g k a b))
 
 left_all : (p q : ℕ → Bool) (n : ℕ) → all_to (λ k. p k && q k) n ≡ true → (k : ℕ) → 1 ≤ k → k ≤ n → p k ≡ true
-left_all p q n e k a b = (both (p k) (q k) (all_to_at (λ j. p j && q j) n k e a b)).0
+left_all p q n e k a b = (and_parts (p k) (q k) (all_to_at (λ j. p j && q j) n k e a b)).0
 
 right_all : (p q : ℕ → Bool) (n : ℕ) → all_to (λ k. p k && q k) n ≡ true → (k : ℕ) → 1 ≤ k → k ≤ n → q k ≡ true
-right_all p q n e k a b = (both (p k) (q k) (all_to_at (λ j. p j && q j) n k e a b)).1
+right_all p q n e k a b = (and_parts (p k) (q k) (all_to_at (λ j. p j && q j) n k e a b)).1
 
 from_zero : (p : ℕ → Bool) (n : ℕ) → p 0 ≡ true → ((k : ℕ) → 1 ≤ k → k ≤ n → p k ≡ true) → (k : ℕ) → k ≤ n → p k ≡ true
 from_zero p n z f zero b = z
@@ -150,29 +152,29 @@ module _ (i : List ℕ) (size : length i ≡ image_size) (bytes : Bytes i) where
   read_scan r =
       let p = plain_image i r.image in
       let f = formed (decode i) r.world in
-      join (join p.header (header_of_lem f))
-      (join (both_all (view_plain_at i) (view_fits (decode i)) views p.view f.viewed)
-      (join (both_all (server_plain_at i) (server_fits (decode i)) servers p.server f.served)
-      (join (both_all (client_plain_at i) (client_fits (decode i)) clients p.client f.client)
-      (join
-      (join (join (p.message 0 (omega arith)) f.zero)
+      and_from _ _ (and_from _ _ p.header (header_of_lem f))
+      (and_from _ _ (both_all (view_plain_at i) (view_fits (decode i)) views p.view f.viewed)
+      (and_from _ _ (both_all (server_plain_at i) (server_fits (decode i)) servers p.server f.served)
+      (and_from _ _ (both_all (client_plain_at i) (client_fits (decode i)) clients p.client f.client)
+      (and_from _ _
+      (and_from _ _ (and_from _ _ (p.message 0 (omega arith)) f.zero)
       (both_all (message_plain_at i) (message_fits (decode i)) messages (λ k a b. p.message k b) f.mail))
-      (join (sym (chains_fit_lem (decode i) (messages_used (decode i) f.full f.mail)) ∙ all_to_lem (chain_fits (decode i)) (decode i).used f.chained)
+      (and_from _ _ (sym (chains_fit_lem (decode i) (messages_used (decode i) f.full f.mail)) ∙ all_to_lem (chain_fits (decode i)) (decode i).used f.chained)
       (all_to_lem (holder_ok i) views (λ t a b. eq-eqb _ _ (p.holder t a b))))))))
 
   scan_read : scanned i ≡ true → Read i
   unfolding scanned header_ok view_ok server_ok client_ok messages_ok first_ok message_ok holder_ok
   scan_read e =
-      let a = both (header_ok i)
+      let a = and_parts (header_ok i)
       (all_to (view_ok i) views && (all_to (server_ok i) servers && (all_to (client_ok i) clients && (messages_ok i && (chains_fit (decode i) && all_to (holder_ok i) views))))) e in
-      let b = both (all_to (view_ok i) views) (all_to (server_ok i) servers && (all_to (client_ok i) clients && (messages_ok i && (chains_fit (decode i) && all_to (holder_ok i) views)))) a.1 in
-      let c = both (all_to (server_ok i) servers) (all_to (client_ok i) clients && (messages_ok i && (chains_fit (decode i) && all_to (holder_ok i) views))) b.1 in
-      let d = both (all_to (client_ok i) clients) (messages_ok i && (chains_fit (decode i) && all_to (holder_ok i) views)) c.1 in
-      let f = both (messages_ok i) (chains_fit (decode i) && all_to (holder_ok i) views) d.1 in
-      let j = both (chains_fit (decode i)) (all_to (holder_ok i) views) f.1 in
-      let g = both (first_ok i) (all_to (message_ok i) messages) f.0 in
-      let h = both (header_plain (part i 0 header_width)) (header_fits (decode i)) a.0 in
-      let z = both (message_plain_at i 0) (zero_message (message (decode i) 0)) g.0 in
+      let b = and_parts (all_to (view_ok i) views) (all_to (server_ok i) servers && (all_to (client_ok i) clients && (messages_ok i && (chains_fit (decode i) && all_to (holder_ok i) views)))) a.1 in
+      let c = and_parts (all_to (server_ok i) servers) (all_to (client_ok i) clients && (messages_ok i && (chains_fit (decode i) && all_to (holder_ok i) views))) b.1 in
+      let d = and_parts (all_to (client_ok i) clients) (messages_ok i && (chains_fit (decode i) && all_to (holder_ok i) views)) c.1 in
+      let f = and_parts (messages_ok i) (chains_fit (decode i) && all_to (holder_ok i) views) d.1 in
+      let j = and_parts (chains_fit (decode i)) (all_to (holder_ok i) views) f.1 in
+      let g = and_parts (first_ok i) (all_to (message_ok i) messages) f.0 in
+      let h = and_parts (header_plain (part i 0 header_width)) (header_fits (decode i)) a.0 in
+      let z = and_parts (message_plain_at i 0) (zero_message (message (decode i) 0)) g.0 in
       let m = right_all (message_plain_at i) (message_fits (decode i)) messages g.1 in
       let full = decode_full i in
       let head = header_parts (decode i) h.1 in
@@ -208,7 +210,7 @@ module _ (i : List ℕ) (size : length i ≡ image_size) (bytes : Bytes i) where
 
   -- the definition and the scan agree on every byte string of the right length
   pub readable_scan : readable i ≡ scanned i
-  readable_scan = as_one (readable i) (scanned i) (λ e. read_scan (read i e)) (λ e. read_back i (scan_read e))
+  readable_scan = both_ways (readable i) (scanned i) (λ e. read_scan (read i e)) (λ e. read_back i (scan_read e))
 
 -- and no other length is readable
 pub readable_size : (i : List ℕ) → (length i ≡ image_size → ⊥) → readable i ≡ false
@@ -216,5 +218,6 @@ unfolding readable
 readable_size i n = rw (ne_eqb (length i) image_size n)
 
 -- a readable image has a header that fits
+-- No proof cites it; it stands for who reads the definitions.
 pub readable_open : (i : List ℕ) → readable i ≡ true → Open i
 readable_open i e = let r = read i e in record { size = r.size; head = let f = formed (decode i) r.world in record { used = f.full; high = f.high } }

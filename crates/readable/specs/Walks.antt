@@ -4,7 +4,8 @@ use Rattle.std.proofs.Math.Path.{sym, ap}
 use Rattle.std.proofs.Common.{ap₂, ◌∙◌, add-zero, zero-add, arith}
 use Rattle.std.proofs.Math.ListN.{length}
 use Rattle.std.proofs.Math.Dec.{eqb-suc-zero, eqb-suc-suc}
-use Rattle.protocol.specs.Tools.{if, bit, all, all_to, count_to, sum_to, join, pass}
+use Rattle.std.proofs.lemmas.Bool.{and_from}
+use Rattle.protocol.specs.Tools.{if, bit, all, all_to, count_to, sum_to, pass}
 use Rattle.protocol.specs.Sizes.{messages}
 use Rattle.protocol.specs.Servers.{is_request}
 use Rattle.protocol.specs.Worlds.{World, message}
@@ -13,7 +14,7 @@ use Rattle.protocol.specs.Readable.{taken_answer, chain_fits}
 use Rattle.codec.specs.Places.{used_at}
 use Rattle.codec.specs.Images.{decode}
 use Rattle.protocol.proofs.Laws.Tests.{by_test}
-use Rattle.protocol.proofs.Laws.Loops.{all_fails}
+use Rattle.protocol.proofs.Laws.Tests.{all_fails}
 use Rattle.readable.specs.Links.{length_follow}
 use Rattle.readable.specs.Chains.{sound, chain_sound, links, is_taken, chains_fit, chain_parts, parts_sound}
 use Rattle.readable.specs.Scan.{chains_rule}
@@ -99,6 +100,7 @@ module _ (w : World) (r left n tally k : ℕ) (most : tally + left ≤ messages)
   walked_broken e =
       sym (walked_most (sound w r left n) (tally + length (follow w left n)) (let f = length_follow w left n in omega arith) (sym is ∙ e))
 
+  -- No proof cites it; it stands for who reads the definitions.
   pub walked_whole : (k ≡ suc messages → ⊥) → Some k ≡ walked w r left n tally
   unfolding walked
   walked_whole e = ap Some is ∙ sym (walked_least (sound w r left n) (tally + length (follow w left n)) (λ q. e (is ∙ q)))
@@ -126,6 +128,7 @@ links_most w r =
     (λ q. rw q (length_follow w messages (message w r).next.0)) (λ q. rw q (omega arith))
 
 -- in a well-formed world the walk from a request follows its whole chain
+-- No proof cites it; it stands for who reads the definitions.
 pub chain_walked : (w : World) (r : ℕ) → chain_fits w r ≡ true → is_request (message w r).kind ≡ true → chained w r ≡ Some (length (chain w r))
 unfolding chained walked chain
 chain_walked w r e q =
@@ -156,7 +159,7 @@ counted_more w (suc n) sum taken l b h c e f =
     let q = whole (chain_sound w (suc n)) (links w (suc n)) l (sym (chained_links w (suc n)) ∙ sym e) in
     let m = links_most w (suc n) in
     record {
-      sound = join d.sound q.0;
+      sound = and_from _ _ d.sound q.0;
       linked = ap₂ (λ (x y : ℕ). x + y) d.linked q.1;
       taken = ap₂ (λ (x y : ℕ). x + y) d.taken f;
       most = let u = d.most in let v = q.1 in omega arith;

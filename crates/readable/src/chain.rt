@@ -70,7 +70,7 @@ impl Opened<'_> {
     }
 
     // "each chain holds only taken answers of its request, all of them, each one time"
-    #[tactic(auto, using(crate::specs::Scan::open_used, crate::specs::Walks::counted_none, crate::specs::Walks::counted_more, crate::specs::Walks::counted_all, crate::specs::Walks::counted_out, protocol::proofs::Laws::Tests::count_le))]
+    #[tactic(auto, using(crate::specs::Scan::open_used, crate::specs::Walks::counted_none, crate::specs::Walks::counted_more, crate::specs::Walks::counted_all, crate::specs::Walks::counted_out, protocol::proofs::Laws::Counts::count_le))]
     pub fn chains_fit(&self) -> bool
         ensures { result ≡ chains_fit (decode self.now.image.now) }
     {
@@ -79,6 +79,7 @@ impl Opened<'_> {
         for n in 1..=load_used(self.image) {
             let n = MessageNumber(n);
             taken += self.taken_bit(n);
+            // The links are added up below, so the way out stands here.
             let Some(links) = self.chain_of(n) else {
                 return false;
             };

@@ -1,6 +1,7 @@
 // Whether an image is readable. Ranges are `1..n + 1`: over `1..=n` a chain asks in each turn whether the last number has come,
 // and the test takes 1.1 times as long.
 // A number in range stays a number: a type for it would be made and taken apart at each call, with the same goal.
+// What is gone over are numbers, not the elements of a slice.
 ghost use Rattle.std.specs.Prelude.{◌≡◌, ◌≤◌};
 ghost use Rattle.protocol.specs.Tools.{all_to};
 ghost use Rattle.protocol.specs.Readable.{last_of};
@@ -113,6 +114,7 @@ impl Opened<'_> {
 pub fn scanned(image: &Image) -> bool
     ensures { result ≡ is_readable image.now }
 {
+    // What is opened asks for a header that fits.
     if !header_ok(image) {
         return false;
     }

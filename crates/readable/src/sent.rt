@@ -45,6 +45,7 @@ fn ending_fits(image: &Image, a: Administrator) -> bool
     requires { (used_at image.now ≤ messages) × (a ≡ administrator_at image.now) }
     ensures { result ≡ ending_fits (decode image.now) a.ending }
 {
+    // What is found is asked about below.
     let Some(n) = a.ending else {
         return true;
     };

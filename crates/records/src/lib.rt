@@ -152,6 +152,7 @@ fn entry_zero(m: Message) -> bool
 pub fn message_fits(m: Message, newest: ViewNumber, asked: bool) -> bool
     ensures { result ≡ message_rule newest.0 m asked }
 {
+    // The kind found is asked about below.
     let Ok(kind) = MessageKind::try_from(m.kind) else {
         return false;
     };

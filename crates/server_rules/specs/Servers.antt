@@ -1,5 +1,5 @@
 -- The parts of a server's rule, and the rule for a view that a key can name. Assumes nothing.
-use Rattle.std.specs.Prelude.{ℕ, ◌≤◌, Bool, not, ◌≡◌, leb, None}
+use Rattle.std.specs.Prelude.{ℕ, ◌≤◌, Bool, not, ◌≡◌, leb, None, true, false, refl}
 use Rattle.std.proofs.Common.{arith, sym}
 use Rattle.std.proofs.Math.Dec.{eqb}
 use borrow.Author.Tests.{le-leb}
@@ -7,7 +7,7 @@ use Rattle.std.proofs.lemmas.Grind.{common_steps}
 use Rattle.protocol.specs.declared.Server.{Server}
 use Rattle.protocol.specs.declared.Message.{Message}
 use Rattle.protocol.specs.declared.Shown.{Shown}
-use Rattle.protocol.specs.Tools.{if, holds, Result, refused, done, guard, number_of}
+use Rattle.protocol.specs.Tools.{if, holds, Result, refused, done, guard, number_of, within}
 use Rattle.protocol.specs.Sizes.{views}
 use Rattle.protocol.specs.declared.Reply.{Reply}
 use Rattle.protocol.specs.Servers.{READ, WRITE, START, answering, without_key, gathering, joining, read, write, end, serve}
@@ -49,9 +49,17 @@ abbrev pub accepting : Server → Message → Reply
 accepting a m = if (eqb m.kind START) (quiet (entering a m)) (replying a m)
 
 -- a refusal is known by its number
+-- No proof cites it; it stands for who reads the definitions.
 pub refused_by : {A : Type 0} (x : Result A) (n : ℕ) → number_of x ≡ n → (n ≡ 0 → ⊥) → x ≡ refused n
 refused_by (refused k) n e f = cc
 refused_by (done a) n e f = absurd (f (sym e))
+
+-- a server that serves kinds 1 to 3
+-- No proof cites it; it stands for who reads the definitions.
+pub serves : (a : Server) (m : Message) (member : Bool) → leb m.view.0 views ≡ true → within READ START m.kind ≡ true
+    → eqb m.kind START ≡ false → a.faulty ≡ false → holds a.keys.0 a.view.0 ≡ true → serve_in a m member ≡ served_by_kind a m
+unfolding serve_in serve guard
+serves a m member v k s f h = rw (v, k, s, f, h) refl
 
 -- "every refusal numbered": what is not refused is done as the rule says
 pub serve_done : (a : Server) (m : Message) (member : Bool) → number_of (serve_in a m member) ≡ 0 → serve_in a m member ≡ done (accepting a m)

@@ -1,6 +1,6 @@
 -- The ways out of `reduce` and `shorten`: `none_left` for 15 and `some_left` when done; `lent_wrong` for 1, `not_fresh` for 8, and
 -- `from_fresh` for what `reduce` did. Used by the proofs of shorten/src and by Promise.antt. Assumes nothing.
-use Prim.Native.Nat.{ℕ, zero, suc, ◌*◌, ◌-◌, ◌/◌, ◌%◌, ◌<◌}
+use Prim.Native.Nat.{ℕ, ◌*◌, ◌-◌, ◌/◌, ◌%◌}
 use native.Mathlib.Omega.{arith}
 use Rattle.std.specs.Prelude.{Bool, true, false, ◌≡◌, eqb, leb, None, Some, Result as Outcome, Ok, Err}
 use Rattle.std.proofs.Math.Path.{refl, sym, ap, ap₂}
@@ -9,6 +9,8 @@ use mathlib.Core.List.{List, ◌++◌, append-nil}
 use Rattle.std.proofs.Math.ListN.{length}
 use borrow.Author.Tests.{eqb-true, eq-eqb, ne_eqb, leb-true, lt-ltb}
 use Rattle.std.specs.Simd.{first_chunks}
+use Rattle.std.proofs.lemmas.Bool.{and_parts}
+use Rattle.std.proofs.Math.Nat.{pos_of_ne-zero}
 use Rattle.protocol.specs.declared.View.{View}
 use Rattle.protocol.specs.Tools.{refused, done, guard}
 use Rattle.protocol.specs.Sizes.{view_with}
@@ -16,7 +18,6 @@ use Rattle.protocol.specs.Worlds.{World, fresh_world, fresh}
 use Rattle.protocol.specs.Runs.{step_width, replay}
 use Rattle.codec.specs.Layout.{image_size}
 use Rattle.codec.specs.Lists.{put}
-use Rattle.protocol.specs.Tools.{both}
 use Rattle.codec.specs.Images.{encode, decode}
 use Rattle.image.specs.Fresh.{fresh_on}
 use Rattle.image.specs.Steps.{steps_in, steps_of, played}
@@ -84,12 +85,8 @@ module _ (v : View) (b : Begins v) (i j s : List ℕ) (e : i ≡ encode (fresh_w
       ap (λ (x : ℕ). passes (stops_with (fresh_world v) (refusal_number y)) x (steps_in x s')) m
       ∙ ap₂ (λ (x : ℕ) (l : List ℕ). passes (stops_with (fresh_world v) x) n (steps_in n l)) stop copied
       ∙ ap (λ (x : ℕ). passes (stops_with (fresh_world v) (replay (fresh_world v) (steps_in n j)).refusal) x (steps_in n j)) count in
-      rw (lt-ltb 0 (replay (fresh_world v) (steps_in n j)).refusal (positive (replay (fresh_world v) (steps_in n j)).refusal (λ e. refusal_some y (sym (stop ∙ e)))))
+      rw (lt-ltb 0 (replay (fresh_world v) (steps_in n j)).refusal (pos_of_ne-zero (λ e. refusal_some y (sym (stop ∙ e)))))
       (record { answer = ap done (d.steps ∙ ap (λ (x : List (List ℕ)). length x) left); image = h; shorter = d.bytes ∙ ap₂ filled long left })
-    where
-      positive : (n : ℕ) → (n ≡ 0 → ⊥) → 0 < n
-      positive zero f = absurd (f refl)
-      positive (suc n) f = omega arith
 
 -- on the bytes of an image
 pub lent_image : (i j s : List ℕ) → length i ≡ image_size → (b : Bool) → b ≡ steps_lent j s → b ≡ lent_well i j s
@@ -97,9 +94,9 @@ lent_image i j s h b e = rw (eq-eqb (length i) image_size h) e
 
 pub lent_well_lem : (i j s : List ℕ) → lent_well i j s ≡ true → Lent i j s
 lent_well_lem i j s e =
-    let a = both (eqb (length i) image_size) _ e in
-    let b = both (eqb (length j % step_width) 0) _ a.1 in
-    let c = both (leb (length j / step_width) most_steps) _ b.1 in
+    let a = and_parts (eqb (length i) image_size) _ e in
+    let b = and_parts (eqb (length j % step_width) 0) _ a.1 in
+    let c = and_parts (leb (length j / step_width) most_steps) _ b.1 in
     record {
       image = eqb-true (length i) image_size a.0;
       journal = eqb-true (length j % step_width) 0 b.0;

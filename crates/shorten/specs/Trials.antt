@@ -1,7 +1,7 @@
 -- A step left out of a replay, and a journal's passes in the lent buffer: what the functions of shorten/src do between two calls.
 -- `trial_stops` and `trial_ends`: the replay of a journal in two parts is that without the step between them; `step_stays` and
 -- `step_goes`: one step tried; `Sweeping` and `Passing`: what the two loops keep. Used by the proofs of shorten/src. Assumes nothing.
-use Prim.Native.Nat.{ℕ, zero, suc, ◌+◌, ◌*◌, ◌-◌, ◌/◌, ◌≤◌, ◌<◌}
+use Prim.Native.Nat.{ℕ, zero, suc, ◌+◌, ◌*◌, ◌-◌, ◌/◌, ◌%◌, ◌≤◌, ◌<◌}
 use native.Mathlib.Omega.{arith}
 use Rattle.std.specs.Simd.{first_chunks}
 use Rattle.std.specs.Prelude.{Bool, true, false, ◌≡◌, refl, ltb, eqb, Option}
@@ -10,7 +10,7 @@ use Rattle.protocol.specs.Refusals.{refusal_number}
 use Rattle.std.proofs.Math.Path.{sym, ap, ap₂}
 use Rattle.std.proofs.lemmas.Bool.{eqb-false}
 use borrow.Author.Tests.{eqb-true}
-use Rattle.std.proofs.Common.{◌∙◌, take_at, drop_at, take-add, eq-eqb, ne_eqb, lt-ltb, le-ltb}
+use Rattle.std.proofs.Common.{◌∙◌, take_at, drop_at, take-add, eq-eqb, ne_eqb, lt-ltb, le-ltb, subst, drop-drop}
 use mathlib.Core.List.{List, [], ◌∷◌}
 use Rattle.std.proofs.Math.ListN.{length, take, drop, length-take, length-drop}
 use Rattle.std.proofs.Math.Seq.{take_all}
@@ -49,6 +49,16 @@ steps_take (suc k) (suc n) j h g =
     ∙ ap₂ (λ (x y : List ℕ). x ∷ steps_in k y) (take_at (take step_width j) r step_width l) (drop_at (take step_width j) r step_width l)
     ∙ ap (λ (x : List (List ℕ)). take step_width j ∷ x) (steps_take k n (drop step_width j) (omega arith) (omega arith))
 
+-- those of the rest are the rest of them
+steps_drop : (k n : ℕ) (j : List ℕ) → k ≤ n → steps_in (n - k) (drop (k * step_width) j) ≡ drop k (steps_in n j)
+unfolding steps_in
+steps_drop zero n j h = let e : n - 0 ≡ n = omega arith in ap (λ (m : ℕ). steps_in m j) e
+steps_drop (suc k) zero j h = absurd (omega arith)
+steps_drop (suc k) (suc n) j h =
+    let fewer : suc n - suc k ≡ n - k = omega arith in
+    let more : suc k * step_width ≡ step_width + k * step_width = omega arith in
+    ap₂ (λ (m : ℕ) (r : List ℕ). steps_in m r) fewer (ap (λ (m : ℕ). drop m j) more ∙ sym (drop-drop (k * step_width) step_width j)) ∙ steps_drop k n (drop step_width j) (omega arith)
+
 -- the first n steps of a buffer
 pub steps_taken : (n : ℕ) (s : List ℕ) → n * step_width ≤ length s → steps_of (take (n * step_width) s) ≡ steps_in n s
 unfolding steps_of
@@ -67,6 +77,7 @@ module _ (s : List ℕ) (n : ℕ) (held : Held s n) where
   pub held_below : {bs : List (List ℕ)} → bs ≡ steps_in n s → (k : ℕ) → k < n → k < length bs
   held_below e k b = let l = ap (λ (x : List (List ℕ)). length x) e ∙ length_steps n s in omega arith
 
+  -- No proof cites it; it stands for who reads the definitions.
   pub held_room : (k : ℕ) → k < n → k * step_width + step_width ≤ length s
   held_room k b = let f = held.fits in omega arith
 
@@ -132,6 +143,49 @@ module _ (v : View) (b : Begins v) (i : List ℕ) (e : i ≡ encode (fresh_world
           ∙ ap₂ (λ (w : World) (x : List (List ℕ)). (replay w x).refusal) there behind_is
           ∙ sym (replay_on_lem (fresh_world v) before behind (let c = before_count in let k = first_count in omega arith))
 
+  -- the same of the bytes of a journal, cut before and behind a step
+  module _ (j : List ℕ) (place : ℕ) (whole : length j % step_width ≡ 0) (below : place < length j / step_width) where
+    abbrev next : ℕ
+    next = place * step_width + step_width
+
+    few : place < length (steps_of j)
+    unfolding steps_of
+    few = let l = length_steps (length j / step_width) j in omega arith
+
+    first_steps : steps_of (take (place * step_width) j) ≡ take place (steps_of j)
+    unfolding steps_of
+    first_steps =
+        let d = length-take (place * step_width) j in
+        let c : length (take (place * step_width) j) / step_width ≡ place = omega arith in
+        ap (λ (m : ℕ). steps_in m (take (place * step_width) j)) c ∙ steps_take place (length j / step_width) j (omega arith) (omega arith)
+
+    rest_steps : steps_of (take (length j - next) (drop next j)) ≡ drop (suc place) (steps_of j)
+    unfolding steps_of
+    rest_steps =
+        let d = length-drop next j in
+        let t : take (length j - next) (drop next j) ≡ drop next j = take_all (length j - next) (drop next j) (omega arith) in
+        let g : next ≡ suc place * step_width = omega arith in
+        let c : length (drop next j) / step_width ≡ length j / step_width - suc place = omega arith in
+        ap (λ (l : List ℕ). steps_in (length l / step_width) l) t
+        ∙ ap (λ (m : ℕ). steps_in m (drop next j)) c
+        ∙ ap (λ (m : ℕ). steps_in (length j / step_width - suc place) (drop m j)) g
+        ∙ steps_drop (suc place) (length j / step_width) j (omega arith)
+
+    module _ (r : Answer) (i' : List ℕ) (p : Plays r i' (played (replay (decode i) (steps_of (take (place * step_width) j))))) where
+      first_plays : Plays r i' (played (replay (decode i) (take place (steps_of j))))
+      first_plays = subst (λ (x : List (List ℕ)). Plays r i' (played (replay (decode i) x))) first_steps p
+
+      -- No proof cites it; it stands for who reads the definitions.
+      pub parts_stop : r.steps < place → stopped_by r.refusal ≡ (replay (fresh_world v) (without (steps_of j) place)).refusal
+      parts_stop = trial_stops (steps_of j) place few r i' first_plays
+
+      -- No proof cites it; it stands for who reads the definitions.
+      pub parts_end : place ≤ r.steps → (r' : Answer) (i'' : List ℕ) → Plays r' i'' (played (replay (decode i') (steps_of (take (length j - next) (drop next j)))))
+          → stopped_by r'.refusal ≡ (replay (fresh_world v) (without (steps_of j) place)).refusal
+      parts_end h r' i'' q =
+          trial_ends (steps_of j) place few r i' first_plays h r' i''
+          (subst (λ (x : List (List ℕ)). Plays r' i'' (played (replay (decode i') x))) (rest_steps ∙ sym (behind_is (steps_of j) place few)) q)
+
 -- ---- one step tried
 
 module _ (w : World) (y : Refusal) (s : List ℕ) (n place : ℕ) (held : Held s n) (below : place < n) (o : Option Refusal)
@@ -187,6 +241,7 @@ pub record Sweeping (p : List (List ℕ) → Bool) (s₀ : List ℕ) (n : ℕ) (
   pub below : place ≤ left
   pub goes : sweep p n (steps_in n s₀) ≡ sweep p place (steps_in left s)
 
+-- No proof cites it; it stands for who reads the definitions.
 pub sweeping_start : (p : List (List ℕ) → Bool) (s : List ℕ) (n : ℕ) → Held s n → Sweeping p s n s n n
 sweeping_start p s n h = record { held = h; long = refl; below = omega arith; goes = refl }
 

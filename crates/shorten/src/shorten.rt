@@ -177,6 +177,7 @@ fn begun(
 }
 
 // "The short journal behind a refusal" from a fresh world: the number of its steps, for every image, journal and buffer.
+// The view is three numbers, as C hands them in.
 pub fn shorten(
     image: &mut [u8],
     members: u32,

@@ -6,7 +6,8 @@ use Rattle.std.proofs.Math.Path.{ap, subst}
 use mathlib.Core.List.{List, [], ◌∷◌}
 use Rattle.std.proofs.Math.Dec.{eqb}
 use borrow.Author.Tests.{ltb-true, eqb-true, eq-eqb, ne_eqb, le-leb}
-use Rattle.std.proofs.lemmas.Bool.{eqb-false}
+use Rattle.std.proofs.lemmas.Bool.{eqb-false, and_from}
+use Rattle.std.specs.Cmp.{first_so, second_so}
 use Rattle.values.specs.declared.tally.Tally.{Tally}
 use Rattle.administrator_rules.specs.Advances.{advance_in, advance_in_lem}
 use Rattle.values.specs.Tallies.{add_answer, tally_from, tally_of, first_answer, closes_at, choice, tally_closes}
@@ -20,7 +21,7 @@ use Rattle.protocol.specs.declared.Administrator.{Administrator}
 use Rattle.protocol.specs.declared.refusals.Refusal.{Refusal}
 use Rattle.protocol.specs.Refusals.{outcome, refusal_number}
 use Rattle.protocol.specs.Types.{Ending}
-use Rattle.protocol.specs.Tools.{if, within, all, Result, refused, done, guard}
+use Rattle.protocol.specs.Tools.{if, all, Result, refused, done, guard}
 use Rattle.protocol.specs.Sizes.{clients, views, messages, write_size, one_exchange}
 use Rattle.protocol.specs.Entries.{chosen}
 use Rattle.protocol.specs.Servers.{READ, WRITE, END, START, ANSWER}
@@ -28,15 +29,18 @@ use Rattle.protocol.specs.Clients.{number, request_of, close_size, Close, close,
 use Rattle.protocol.specs.Worlds.{World, view, client, message, newest, present, room, with_client, with_administrator, send, next_number}
 use Rattle.protocol.specs.Chains.{follow, chain, enough, shown}
 use Rattle.protocol.specs.Steps.{After, moved, request, link, open?, taken_with, at_once, closes, starts, takes, take}
-use Rattle.protocol.specs.Readable.{ending_fits, sender_fits, tag_rule, sent_fits, taken_answer}
-use Rattle.protocol.proofs.Laws.Tests.{and_left, and_right, within_true}
+use Rattle.protocol.specs.Readable.{ending_fits, sender_fits, tag_rule, taken_answer}
+use Rattle.protocol.proofs.Laws.Tests.{within_true}
 use Rattle.protocol.proofs.Laws.Sound.{link_used}
 use Rattle.protocol.proofs.Laws.Formed.{Formed}
 use Rattle.protocol.proofs.Laws.Tests.{is_within}
-use Rattle.preservation.proofs.Chained.{chained, all_map}
+use Rattle.protocol.proofs.Laws.Lists.{all_map}
+use Rattle.protocol.proofs.Laws.Moves.{present_is}
+use Rattle.protocol.proofs.Laws.Kinds.{not_end}
+use Rattle.preservation.proofs.Chained.{chained}
 use Rattle.preservation.specs.Links.{Untaken}
 use Rattle.preservation.proofs.Links.{taken_is}
-use Rattle.preservation.proofs.Updates.{mail_sent, request_of_lem, present_is}
+use Rattle.preservation.proofs.Kept.{untaken, mailed}
 use Rattle.codec.specs.Places.{administrator_at, put_administrator, used_at, view_at, client_at, put_client, message_at, put_message}
 use Rattle.codec.specs.Images.{encode, decode}
 use Rattle.codec.specs.Laws.{Full, decode_full, full_message}
@@ -89,7 +93,7 @@ module _ {l : List ℕ} {left n : ℕ} (h : Walk l left n) (b : 1 ≤ left) (d :
   met_on = subst (λ (ks : List ℕ). all (present (decode l)) ks ≡ true) (follow_one (decode l) left n b d) h.met
 
   pub walk_low : n ≤ messages
-  walk_low = omega (arith, (present_is (decode l) n (and_left _ _ met_on)).1, (whole h.legible).full)
+  walk_low = omega (arith, (present_is (decode l) n (first_so _ _ met_on)).1, (whole h.legible).full)
 
   -- m is the message met
   module _ (m : Message) (e : m ≡ message_at l n) where
@@ -102,7 +106,7 @@ module _ {l : List ℕ} {left n : ℕ} (h : Walk l left n) (b : 1 ≤ left) (d :
           legible = h.legible;
           met =
               subst (λ (x : Message). all (present (decode l)) (follow (decode l) (left - 1) x.next.0) ≡ true) (sym met_is)
-              (and_right (present (decode l) n) _ met_on);
+              (second_so (present (decode l) n) _ met_on);
         }
 
     pub tally_on_lem : (t : ℕ) (a c r : Tally) → c ≡ add_answer a t m → r ≡ tally_from (decode l) t c (follow (decode l) (left - 1) m.next.0) → r ≡ tally_from (decode l) t a (follow (decode l) left n)
@@ -118,36 +122,14 @@ pub record Takable (l : List ℕ) (k : ℕ) : Type 0 where
   pub untaken : Untaken (decode l) k (message (decode l) k).request.0
 
 takable : {l : List ℕ} → Legible l → (k : ℕ) → present (decode l) k ≡ true → (message (decode l) k).kind ≡ ANSWER → (message (decode l) k).taken ≡ false → Takable l k
-takable {l} h k p i f =
-    let w : World = decode l in
-    let (b, u) = present_is w k p in
-    let q = request_of_lem (whole h) k b u i in
-    let (c, d) = present_is w (message w k).request.0 (and_left _ _ q) in
-    record {
-      legible = h;
-      untaken = record {
-        low = b;
-        below = u;
-        is = i;
-        free = f;
-        request = refl;
-        from = c;
-        to = d;
-        asked = and_right (present w (message w k).request.0) _ q;
-        full = (whole h).full;
-        count = (whole h).message_count;
-      };
-    }
+takable {l} h k p i f = record { legible = h; untaken = untaken (whole h) k (and_from _ _ p (eq-eqb _ _ i)) f }
 
 -- what a message's clause says of its sender and its view
 pub sender_of : {w : World} → Formed w → (n : ℕ) → 1 ≤ n → n ≤ w.used → sender_fits (message w n).kind (message w n).sender ≡ true
-unfolding sent_fits
-sender_of {w} h n b u = and_left _ _ (and_right (within READ ANSWER (message w n).kind) _ (mail_sent h n b u))
+sender_of h n b u = (mailed h n b u).sender
 
 pub tag_of : {w : World} → Formed w → (n : ℕ) → 1 ≤ n → n ≤ w.used → tag_rule (newest w) (message w n).kind (message w n).view.0 ≡ true
-unfolding sent_fits
-tag_of {w} h n b u =
-    and_left _ _ (and_right (sender_fits (message w n).kind (message w n).sender) _ (and_right (within READ ANSWER (message w n).kind) _ (mail_sent h n b u)))
+tag_of h n b u = (mailed h n b u).tag
 
 module _ {l : List ℕ} {k : ℕ} (h : Takable l k) where
   abbrev w : World
@@ -187,11 +169,8 @@ module _ {l : List ℕ} {k : ℕ} (h : Takable l k) where
   pub asked_client : ((message w r).kind ≡ END → ⊥) → (1 ≤ (message w r).sender) × ((message w r).sender ≤ clients)
   asked_client n =
       let (a, b) = within_true READ END (message w r).kind h.untaken.asked in
-      let c : (message w r).kind ≤ WRITE = below n b in
+      let c : (message w r).kind ≤ WRITE = not_end n b in
       within_true 1 clients (message w r).sender (rw (le-leb (message w r).kind WRITE c) at (sender_of (whole h.legible) r h.untaken.from h.untaken.to))
-    where
-      below : {x : ℕ} → (x ≡ END → ⊥) → x ≤ END → x ≤ WRITE
-      below f a = omega arith
 
   -- "while ending, newest is below 32"
   pub asked_end : eqb (message w r).kind END ≡ true → open? w r ≡ true → newest w < views
@@ -200,7 +179,7 @@ module _ {l : List ℕ} {k : ℕ} (h : Takable l k) where
     where
       go : (x : Ending) → ending_fits w x ≡ true → end_of x ≡ r → newest w < views
       go None f p = absurd (omega (arith, h.untaken.from))
-      go (Some q) f p = ltb-true _ _ (and_left _ _ f)
+      go (Some q) f p = ltb-true _ _ (first_so _ _ f)
 
 -- "A phase closes when, by the answer just taken, the answers taken with that answer's view t come from at least q(t) different servers."
 abbrev pub closes_with : World → ℕ → ℕ → Option Choice

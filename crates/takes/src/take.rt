@@ -2,7 +2,6 @@
 // That the image is readable is asked, not held by a struct: behind `&mut` its field would have to be proved again at each
 // return, and for a reader it would be made for one call.
 // A number in range stays a number: a type for it would be made and taken apart at each call, with the same goal.
-// Numbers are compared by what they hold: with `==` on their types the check does not find the answers.
 ghost use Rattle.std.specs.Prelude.{◌≡◌, ◌≤◌, ◌<◌};
 ghost use Rattle.protocol.specs.Sizes.{clients, views};
 ghost use Rattle.protocol.specs.Worlds.{newest as newest_of};
@@ -67,9 +66,9 @@ fn is_open(image: &Image, r: MessageNumber, q: Message) -> bool
     ensures { result ≡ open? (decode image.now) r.0 }
 {
     if q.is(MessageKind::End) {
-        load_administrator(image).end().0 == r.0
+        load_administrator(image).end() == r
     } else {
-        load_client(image, q.sender).phase.request().0 == r.0
+        load_client(image, q.sender).phase.request() == r
     }
 }
 
@@ -80,7 +79,7 @@ fn write_next(image: &mut Image, k: MessageNumber, c: u8, a: Client) -> Stepped
     ensures { Does result image.old image.new (wrote (decode image.old) k.0 c a) }
 {
     let number = next_number(image)?;
-    let write = request(MessageKind::Write as u8, c, ViewNumber(0), a.entry);
+    let write = request(u8::from(MessageKind::Write), c, ViewNumber(0), a.entry);
     link(image, k);
     store_client(image, c, a);
     send(image, number, write);
@@ -128,7 +127,7 @@ fn start_view(image: &mut Image, k: MessageNumber, e: Entry) -> Stepped
 {
     let number = next_number(image)?;
     let a = advance(load_administrator(image))?;
-    let start = request(MessageKind::Start as u8, 0, a.newest, e);
+    let start = request(u8::from(MessageKind::Start), 0, a.newest, e);
     link(image, k);
     store_administrator(image, a);
     send(image, number, start);
@@ -142,7 +141,7 @@ fn take_end(image: &mut Image, k: MessageNumber) -> Stepped
     ensures { Does result image.old image.new (end_taken (decode image.old) k.0) }
 {
     let t = load_message(image, k).view;
-    if t.0 != load_administrator(image).newest.0 {
+    if t != load_administrator(image).newest {
         link(image, k);
         return Ok(None);
     }

@@ -1,6 +1,5 @@
 // The tally of an answer's view along the chain of its request. That the image is readable is asked of the walk (`Walk`): a struct
 // that holds it would be made for one call.
-// Numbers are compared by what they hold: with `==` on their types the check does not find the answers.
 ghost use Rattle.std.specs.Prelude.{◌≡◌, ◌/◌, ◌%◌, ◌^◌, ◌≤◌, eqb};
 ghost use Rattle.protocol.specs.Sizes.{messages};
 ghost use Rattle.codec.specs.Places.{message_at};
@@ -92,7 +91,7 @@ pub fn gather(image: &Image, t: ViewNumber, n: MessageNumber, left: u16, g: Gath
         return g;
     }
     let m = load_message(image, n);
-    if m.view.0 != t.0 {
+    if m.view != t {
         return gather(image, t, m.next, left - 1, g);
     }
     gather(image, t, m.next, left - 1, g.with_answer(image, n, m))

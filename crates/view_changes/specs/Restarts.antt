@@ -19,7 +19,7 @@ use Rattle.protocol.specs.Readable.{taken_answer}
 use Rattle.protocol.proofs.Laws.Tests.{is_within}
 use Rattle.protocol.proofs.Laws.Worlds.{content, sent, count_as}
 use Rattle.protocol.proofs.Laws.Moves.{is_done}
-use Rattle.preservation.proofs.Chained.{all_map}
+use Rattle.protocol.proofs.Laws.Lists.{all_map}
 use Rattle.preservation.proofs.Links.{taken_is}
 use Rattle.preservation.specs.Emptied.{Rooted}
 use Rattle.preservation.proofs.Emptied.{as_none, as_more}

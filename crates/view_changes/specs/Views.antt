@@ -1,6 +1,7 @@
 -- A new view on the image of a readable world. Assumes nothing.
 use Rattle.std.specs.Prelude.{ℕ, ◌+◌, ◌≤◌, ◌<◌, ◌≡◌, List, None, Result as Outcome, Ok, Err}
 use Rattle.std.proofs.Common.{arith, sym, ap, ap₂, ◌∙◌}
+use Rattle.std.specs.Cmp.{second_so}
 use borrow.Author.Tests.{ltb-true}
 use Rattle.protocol.specs.declared.View.{View}
 use Rattle.protocol.specs.declared.Administrator.{Administrator}
@@ -16,7 +17,6 @@ use Rattle.protocol.specs.Servers.{END}
 use Rattle.protocol.specs.Clients.{call}
 use Rattle.protocol.specs.Worlds.{World, newest, with_view, with_administrator, send, next_number}
 use Rattle.protocol.specs.Steps.{request, new_view}
-use Rattle.protocol.proofs.Laws.Tests.{and_right}
 use Rattle.codec.specs.Places.{used_at, administrator_at, put_administrator, put_view}
 use Rattle.codec.specs.Images.{decode}
 use Rattle.mail.specs.Images.{Legible, Does, put_sent, number_left}
@@ -47,7 +47,7 @@ module _ (w : World) (v : View) where
   call_low a e =
       let (p, e1) = passed _ _ _ _ e in
       let (q, e2) = passed _ _ _ _ e1 in
-      ltb-true _ _ (and_right (sized v) _ q)
+      ltb-true _ _ (second_so (sized v) _ q)
 
 -- what the administrator's rule gives on the record and the number that were read
 module _ {l : List ℕ} (h : Legible l) (v : View) (b : Administrator) (u : ℕ) (o : Outcome Administrator Refusal) (p : b ≡ administrator_at l) (q : u ≡ used_at l)

@@ -20,7 +20,12 @@ pub fn new_view(image: &mut Image, v: View) -> Stepped
     let before = load_administrator(image);
     let a = call(before, v, MessageNumber(load_used(image) + 1))?;
     let number = next_number(image)?;
-    let end = request(MessageKind::End as u8, 0, before.newest, Entry::default());
+    let end = request(
+        u8::from(MessageKind::End),
+        0,
+        before.newest,
+        Entry::default(),
+    );
     store_administrator(image, a);
     store_view(image, ViewNumber(before.newest.0 + 1), v);
     send(image, number, end);

@@ -2,27 +2,15 @@
 -- qualifies: `best_none`. Used by Theorem.
 use Rattle.std.specs.Prelude.{ℕ, zero, suc, ◌≤◌, ◌<◌, Bool, true, false, ◌≡◌, refl, ◌⊎◌, List, ltb, eqb, Option, None, Some}
 use Rattle.std.proofs.Math.Decide.{dec_lt}
-use Rattle.std.proofs.Common.{arith, sym, subst, ◌∙◌, inl, inr, eqb-true, lt-ltb, le-ltb, eq-eqb, ne_eqb}
+use Rattle.std.proofs.Common.{arith, sym, subst, ◌∙◌, inl, inr, lt-ltb, le-ltb, eq-eqb, ne_eqb}
+use Rattle.std.proofs.lemmas.Bool.{cases_Bool}
+use Rattle.std.proofs.lemmas.Option.{same_Some}
 use Rattle.protocol.specs.declared.Entry.{Entry}
 use Rattle.protocol.specs.Tools.{if}
-use Rattle.protocol.specs.Entries.{count_of, writer_of, below, same}
-use Rattle.protocol.proofs.Laws.Tests.{and_left, and_right, by_bool, last_or, clash}
+use Rattle.protocol.specs.Entries.{count_of, writer_of, below}
+use Rattle.protocol.proofs.Laws.Tests.{last_or, clash}
 use Rattle.vouch.specs.Answers.{entry_shown}
 use Rattle.vouch.specs.Choices.{outranks, better, best_to}
-
--- entries that agree in every field are one
-pub same_one : (a b : Entry) → same a b ≡ true → a ≡ b
-unfolding same
-same_one a b e =
-    let c : count_of a ≡ count_of b = eqb-true _ _ (and_left _ _ e) in
-    let r = and_right (eqb (count_of a) (count_of b)) _ e in
-    let w : writer_of a ≡ writer_of b = eqb-true _ _ (and_left _ _ r) in
-    let v : a.value ≡ b.value = eqb-true _ _ (and_right (eqb (writer_of a) (writer_of b)) _ r) in
-    λ i. record { stamp = record { count = record { 0 = c i }; writer = w i }; value = v i }
-
-pub same_self : (a : Entry) → same a a ≡ true
-unfolding same
-same_self a = simp (eq-eqb (count_of a) (count_of a) refl, eq-eqb (writer_of a) (writer_of a) refl, eq-eqb a.value a.value refl)
 
 -- what it means that e outranks d, and that it does not
 data Above (e d : Entry) : Type 0 where
@@ -89,7 +77,7 @@ never (value c w h) (writer d k) = omega arith
 never (value c w h) (value d x k) = omega arith
 
 from_not_above : {e d : Entry} → NotAbove e d → outranks e d ≡ false
-from_not_above {e} {d} n = go (by_bool (outranks e d))
+from_not_above {e} {d} n = go (cases_Bool (outranks e d))
   where
     go : (outranks e d ≡ true) ⊎ (outranks e d ≡ false) → outranks e d ≡ false
     go (inl t) = absurd (never (above t) n)
@@ -166,7 +154,7 @@ module _ (q : Entry → Bool) (l : List ℕ) where
   kept : {m : ℕ} {d e : Entry} → Best q l m d → (q (entry_shown l (suc m)) ≡ true → outranks (entry_shown l (suc m)) d ≡ false) → Some d ≡ Some e
       → Best q l (suc m) e
   kept {m} {d} {e} b f p =
-      subst (Best q l (suc m)) (inside p)
+      subst (Best q l (suc m)) (same_Some _ _ p)
       (record {
         at = b.at;
         low = b.low;
@@ -175,16 +163,13 @@ module _ (q : Entry → Bool) (l : List ℕ) where
         qualifies = b.qualifies;
         top = each {P = λ k. q (entry_shown l k) ≡ true → outranks (entry_shown l k) d ≡ false} m f b.top;
       })
-    where
-      inside : Some d ≡ Some e → d ≡ e
-      inside p = cc
 
   -- an answer more that is better than all before
   taken : {m : ℕ} {e : Entry} → q (entry_shown l (suc m)) ≡ true
       → ((k : ℕ) → 1 ≤ k → k ≤ m → q (entry_shown l k) ≡ true → outranks (entry_shown l k) (entry_shown l (suc m)) ≡ false)
       → Some (entry_shown l (suc m)) ≡ Some e → Best q l (suc m) e
   taken {m} {e} a f p =
-      subst (Best q l (suc m)) (inside p)
+      subst (Best q l (suc m)) (same_Some _ _ p)
       (record {
         at = suc m;
         low = omega arith;
@@ -193,9 +178,6 @@ module _ (q : Entry → Bool) (l : List ℕ) where
         qualifies = a;
         top = each {P = λ k. q (entry_shown l k) ≡ true → outranks (entry_shown l k) (entry_shown l (suc m)) ≡ false} m (λ _. outranks_self _) f;
       })
-    where
-      inside : Some (entry_shown l (suc m)) ≡ Some e → entry_shown l (suc m) ≡ e
-      inside p = cc
 
 pub best_some : (q : Entry → Bool) (l : List ℕ) (m : ℕ) (e : Entry) → best_to q l m ≡ Some e → Best q l m e
 unfolding best_to

@@ -1,12 +1,12 @@
 -- Computed cases of both choices: what is promised and what is not, ties, the drop test, and each refusal by its clause.
 use Rattle.std.specs.Prelude.{ℕ, zero, suc, ◌≡◌, refl, List, [], ◌∷◌, ◌++◌, replicate}
 use Rattle.protocol.specs.declared.Entry.{Entry}
-use Rattle.protocol.specs.Tools.{count_to, all_to, Result, refused, done, guard}
+use Rattle.protocol.specs.Tools.{count_to, all_to, Result, refused, done, guard, some_to}
 use Rattle.protocol.specs.Entries.{entry, below, same, entry_fits}
 use Rattle.codec.specs.Layout.{entry_width}
 use Rattle.codec.specs.Lists.{part}
 use Rattle.codec.specs.Records.{entry_of, entry_bytes}
-use Rattle.vouch.specs.Answers.{answer_bytes, answerer, entry_shown, some_to, shows, showing}
+use Rattle.vouch.specs.Answers.{answer_bytes, answerer, entry_shown, shows, showing}
 use Rattle.vouch.specs.Choices.{outranks, best_to}
 use Rattle.vouch.specs.Checks.{three_clear, values_fit, not_before, answer_fits, list_fits, vouch_on, threshold_on}
 

@@ -1,16 +1,17 @@
 -- Document 001 tests only the candidate with the largest stamp: "it selects the pair with the highest timestamp, provided that it
 -- is not countermanded". The second choice, which drops every entry by its own test, comes to the same: `as_read`.
-use Rattle.std.specs.Prelude.{ℕ, ◌≤◌, ◌<◌, Bool, true, false, ◌&&◌, ◌||◌, ◌≡◌, refl, ◌⊎◌, List, ltb, eqb, Option, None, Some}
+use Rattle.std.specs.Prelude.{ℕ, ◌≤◌, ◌<◌, Bool, true, false, ◌&&◌, ◌≡◌, refl, ◌⊎◌, List, ltb, eqb, Option, None, Some}
 use Rattle.std.proofs.Common.{arith, ap, ◌∙◌, inl, inr, ltb-true, leb-true, eqb-true, lt-ltb, le-leb, eq-eqb}
-use Rattle.std.proofs.lemmas.Bool.{not-true}
+use Rattle.std.proofs.lemmas.Bool.{not-true, and_from, or_cases, or_right}
+use Rattle.std.specs.Cmp.{first_so, second_so}
 use Rattle.protocol.specs.declared.Entry.{Entry}
 use Rattle.protocol.specs.Tools.{if}
 use Rattle.protocol.specs.Sizes.{servers}
 use Rattle.protocol.specs.Entries.{count_of, writer_of, below}
-use Rattle.protocol.proofs.Laws.Tests.{and_left, and_right, and_both, or_cases, clash}
+use Rattle.protocol.proofs.Laws.Tests.{clash, some_passing, passing_some}
+use Rattle.protocol.proofs.Laws.Counts.{count_mono}
 use Rattle.vouch.specs.Answers.{answer_count, answerer, entry_shown, shows_by, shows, showing}
 use Rattle.vouch.specs.Choices.{against, candidate, dropped, standing, outranks, best}
-use Rattle.vouch.proofs.Counting.{count_mono, some_found, some_at}
 use Rattle.vouch.proofs.Best.{NotAbove, count, writer, value, not_above, level_one, Best, best_some, best_none}
 use Rattle.vouch.specs.Readings.{provided}
 
@@ -25,16 +26,12 @@ less a b e = go (or_cases (ltb (count_of a) (count_of b)) _ e)
   where
     go : (ltb (count_of a) (count_of b) ≡ true) ⊎ ((eqb (count_of a) (count_of b) && ltb (writer_of a) (writer_of b)) ≡ true) → Less a b
     go (inl h) = by_count (ltb-true _ _ h)
-    go (inr h) = by_writer (eqb-true _ _ (and_left _ _ h)) (ltb-true _ _ (and_right (eqb (count_of a) (count_of b)) _ h))
+    go (inr h) = by_writer (eqb-true _ _ (first_so _ _ h)) (ltb-true _ _ (second_so (eqb (count_of a) (count_of b)) _ h))
 
 from_less : {a b : Entry} → Less a b → below a b ≡ true
 unfolding below
 from_less (by_count h) = simp (lt-ltb _ _ h)
-from_less {a} {b} (by_writer e h) = or_right (ltb (count_of a) (count_of b)) (and_both _ _ (eq-eqb _ _ e) (lt-ltb _ _ h))
-  where
-    or_right : (x : Bool) {y : Bool} → y ≡ true → (x || y) ≡ true
-    or_right true e = refl
-    or_right false e = e
+from_less {a} {b} (by_writer e h) = or_right (ltb (count_of a) (count_of b)) _ (and_from _ _ (eq-eqb _ _ e) (lt-ltb _ _ h))
 
 -- what is larger than a stamp is larger than one that is no larger
 lower : {f e x : Entry} → NotAbove f e → Less e x → Less f x
@@ -51,9 +48,9 @@ unfolding showing shows
 showing_mono p q l h =
     count_mono (shows p l) (shows q l) servers
     (λ s _ _ t.
-    let f = some_found (shows_by p l s) (answer_count l) t in
-    some_at (shows_by q l s) (answer_count l) f.at f.low f.high
-    (and_both (eqb (answerer l f.at) s) _ (and_left (eqb (answerer l f.at) s) (p (entry_shown l f.at)) f.passes) (h (entry_shown l f.at) (and_right (eqb (answerer l f.at) s) _ f.passes))))
+    let f = some_passing (shows_by p l s) (answer_count l) t in
+    passing_some (shows_by q l s) (answer_count l) f.at f.low f.high
+    (and_from (eqb (answerer l f.at) s) _ (first_so (eqb (answerer l f.at) s) (p (entry_shown l f.at)) f.test) (h (entry_shown l f.at) (second_so (eqb (answerer l f.at) s) _ f.test))))
 
 -- what is against an entry is against every one that does not outrank it
 carried : (l : List ℕ) (c : ℕ) (f e : Entry) → outranks f e ≡ false → dropped l c e ≡ true → dropped l c f ≡ true
@@ -64,7 +61,7 @@ carried l c f e o d =
 module _ (l : List ℕ) (c : ℕ) where
   -- of those that stand none is best, or the best is a candidate that is not outranked by the best candidate
   apart : (f e : Entry) → Best (standing l c) l (answer_count l) f → Best (candidate l c) l (answer_count l) e → outranks f e ≡ false
-  apart f e b a = rw (← b.is) (a.top b.at b.low b.high (rw b.is (and_left (candidate l c f) _ b.qualifies)))
+  apart f e b a = rw (← b.is) (a.top b.at b.low b.high (rw b.is (first_so (candidate l c f) _ b.qualifies)))
 
   nothing : best (candidate l c) l ≡ None → best (standing l c) l ≡ None
   nothing p = go (best (standing l c) l) refl
@@ -73,7 +70,7 @@ module _ (l : List ℕ) (c : ℕ) where
       go None e = e
       go (Some f) e =
           let b = best_some (standing l c) l (answer_count l) f e in
-          clash (rw b.is (and_left (candidate l c f) _ b.qualifies)) (best_none (candidate l c) l (answer_count l) p b.at b.low b.high)
+          clash (rw b.is (first_so (candidate l c f) _ b.qualifies)) (best_none (candidate l c) l (answer_count l) p b.at b.low b.high)
 
   gone : (e : Entry) → Best (candidate l c) l (answer_count l) e → dropped l c e ≡ true → best (standing l c) l ≡ None
   gone e a d = go (best (standing l c) l) refl
@@ -82,13 +79,13 @@ module _ (l : List ℕ) (c : ℕ) where
       go None p = p
       go (Some f) p =
           let b = best_some (standing l c) l (answer_count l) f p in
-          clash (carried l c f e (apart f e b a) d) (not-true _ (and_right (candidate l c f) _ b.qualifies))
+          clash (carried l c f e (apart f e b a) d) (not-true _ (second_so (candidate l c f) _ b.qualifies))
 
   stays : (e : Entry) → Best (candidate l c) l (answer_count l) e → dropped l c e ≡ false → best (standing l c) l ≡ Some e
   stays e a d = go (best (standing l c) l) refl
     where
       stands : standing l c e ≡ true
-      stands = and_both _ _ a.qualifies (rw d refl)
+      stands = and_from _ _ a.qualifies (rw d refl)
 
       stands_there : standing l c (entry_shown l a.at) ≡ true
       stands_there = rw a.is stands

@@ -1,27 +1,19 @@
 -- The bits gathered name as many servers as show an entry that passes, `seen_showing`. Used by the functions that count.
-use Rattle.std.specs.Prelude.{ℕ, zero, suc, ◌≤◌, ◌<◌, Bool, true, false, ◌&&◌, ◌||◌, ◌≡◌, refl, List, eqb}
+use Rattle.std.specs.Prelude.{ℕ, zero, suc, ◌≤◌, ◌<◌, Bool, true, false, ◌&&◌, ◌||◌, ◌≡◌, List, eqb}
 use Rattle.std.proofs.Common.{arith, sym, ap, ◌∙◌}
-use Rattle.std.proofs.Math.Bool.{or-false}
+use Rattle.std.proofs.Math.Bool.{and-true, and-false, or-false}
 use Rattle.std.specs.Int.Bits.{bit_or}
 use Rattle.protocol.specs.declared.Entry.{Entry}
-use Rattle.protocol.specs.Tools.{if, count_to, holds}
+use Rattle.protocol.specs.Tools.{if, count_to, holds, some_to}
 use Rattle.protocol.specs.Sizes.{servers}
 use Rattle.protocol.proofs.Laws.Bits.{holds_or, holds_none}
 use Rattle.values.specs.Bits.{bit_in, bit_held, count_same}
-use Rattle.vouch.specs.Answers.{answer_count, answerer, entry_shown, some_to, shows_by, shows, showing}
+use Rattle.vouch.specs.Answers.{answer_count, answerer, entry_shown, shows_by, shows, showing}
 use Rattle.vouch.specs.Seen.{seen_with, seen_to}
 
 held : (t : Bool) (seen a s : ℕ) → 0 < s → s ≤ servers → holds (if t (bit_or seen (bit_in a)) seen) s ≡ holds seen s || (eqb a s && t)
 held true seen a s h k = holds_or seen (bit_in a) s ∙ ap (λ (b : Bool). holds seen s || b) (bit_held a s h k ∙ sym (and-true (eqb a s)))
-  where
-    and-true : (x : Bool) → (x && true) ≡ x
-    and-true true = refl
-    and-true false = refl
 held false seen a s h k = sym (ap (λ (b : Bool). holds seen s || b) (and-false (eqb a s)) ∙ or-false (holds seen s))
-  where
-    and-false : (x : Bool) → (x && false) ≡ false
-    and-false true = refl
-    and-false false = refl
 
 seen_shows : (p : Entry → Bool) (l : List ℕ) (k s : ℕ) → 0 < s → s ≤ servers → holds (seen_to p l k) s ≡ some_to (shows_by p l s) k
 unfolding seen_to seen_with some_to

@@ -1,8 +1,8 @@
 -- A list of answers as bytes: who answers and which entry is shown, by the answer's number from 1; how many servers show an entry
 -- that passes a test. `showing` is what both choices count. Used by Choices and Checks.
-use Rattle.std.specs.Prelude.{ℕ, zero, suc, ◌+◌, ◌*◌, ◌-◌, ◌/◌, Bool, false, ◌&&◌, ◌||◌, List, [], ◌∷◌, ◌++◌, length, get_or, eqb}
+use Rattle.std.specs.Prelude.{ℕ, ◌+◌, ◌*◌, ◌-◌, ◌/◌, Bool, ◌&&◌, List, [], ◌∷◌, ◌++◌, length, get_or, eqb}
 use Rattle.protocol.specs.declared.Entry.{Entry}
-use Rattle.protocol.specs.Tools.{count_to}
+use Rattle.protocol.specs.Tools.{count_to, some_to}
 use Rattle.protocol.specs.Sizes.{servers}
 use Rattle.codec.specs.Layout.{entry_width}
 use Rattle.codec.specs.Lists.{part}
@@ -31,11 +31,6 @@ answerer l k = get_or l (answer_place k) 0
 
 unfoldable pub entry_shown : List ℕ → ℕ → Entry
 entry_shown l k = entry_of (part l (answer_place k + shown_at) entry_width)
-
--- whether one of the numbers 1 to n passes p
-unfoldable pub some_to : (ℕ → Bool) → ℕ → Bool
-some_to p zero = false
-some_to p (suc n) = some_to p n || p (suc n)
 
 -- whether server s shows an entry that passes p: answer number k does it
 abbrev pub shows_by : (Entry → Bool) → List ℕ → ℕ → ℕ → Bool

@@ -1,4 +1,5 @@
 // The best of the entries that qualify.
+// What is gone over are numbers, as the definitions have it.
 ghost use Rattle.std.specs.Prelude.{◌≡◌, Bool};
 ghost use Rattle.protocol.specs.declared.Entry.{Entry};
 ghost use Rattle.vouch.specs.Choices.{outranks, better, best, candidate, standing};

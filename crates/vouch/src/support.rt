@@ -1,4 +1,5 @@
 // How many servers show an entry that passes a test.
+// What is gone over are numbers, as the definitions have it.
 ghost use Rattle.std.specs.Prelude.{◌≡◌, Bool};
 ghost use Rattle.protocol.specs.declared.Entry.{Entry};
 ghost use Rattle.vouch.specs.Answers.{showing};

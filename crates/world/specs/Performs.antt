@@ -2,12 +2,13 @@
 use Rattle.std.specs.Prelude.{ℕ, true, false, ◌≡◌, ◌≤◌, List, length, eqb, Result as Outcome, Ok, Err}
 use Rattle.std.proofs.Math.Path.{refl, sym}
 use Rattle.std.proofs.Common.{arith, ap, ◌∙◌}
+use Rattle.std.specs.Cmp.{first_so}
 use borrow.Author.Tests.{eq-eqb, ne_eqb}
 use Rattle.protocol.specs.declared.Step.{Step}
 use Rattle.protocol.specs.declared.kinds.StepKind.{StepKind}
 use Rattle.protocol.specs.declared.kinds.UnknownKind.{UnknownKind}
 use Rattle.protocol.specs.Kinds.{step_code, named_step, step_named}
-use Rattle.protocol.proofs.Laws.Tests.{and_left, within_true}
+use Rattle.protocol.proofs.Laws.Tests.{within_true}
 use Rattle.protocol.specs.declared.refusals.Refusal.TheVariants.{WrongLength, Unreadable, Unfit}
 use Rattle.protocol.specs.Tools.{guard}
 use Rattle.protocol.specs.Clients.{WRITES, READS}
@@ -33,7 +34,7 @@ nameless n u a b e = grind arith
 -- "3, unknown kind": a step that check 3 has passed has a kind with a name
 pub is_named : (st : Step) {o : Outcome StepKind UnknownKind} {u : UnknownKind} → fields_fit st ≡ true → o ≡ Err u → o ≡ named_step st.kind → ⊥
 unfolding fields_fit
-is_named st {o} {u} f p e = let (a, b) = within_true write_step restart_step st.kind (and_left _ _ f) in nameless st.kind u a b (sym p ∙ e)
+is_named st {o} {u} f p e = let (a, b) = within_true write_step restart_step st.kind (first_so _ _ f) in nameless st.kind u a b (sym p ∙ e)
 
 module _ (w : World) (st : Step) where
   kind_is : (k n : ℕ) → st.kind ≡ k → eqb k n ≡ eqb st.kind n

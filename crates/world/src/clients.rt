@@ -23,7 +23,12 @@ pub fn begins(image: &mut Image, c: u8, kind: u8, value: u32) -> Stepped
     let next = MessageNumber(load_used(image) + 1);
     let begun = begin(load_client(image, c), kind, value, next)?;
     let number = next_number(image)?;
-    let read = request(MessageKind::Read as u8, c, ViewNumber(0), Entry::default());
+    let read = request(
+        u8::from(MessageKind::Read),
+        c,
+        ViewNumber(0),
+        Entry::default(),
+    );
     store_client(image, c, begun);
     send(image, number, read);
     Ok(None)

@@ -42,8 +42,8 @@ fn perform(image: &mut Image, st: Step) -> Stepped
     };
     let server = ServerNumber(st.who);
     match kind {
-        StepKind::Write => begins(image, st.who, Operation::Write as u8, st.value),
-        StepKind::Read => begins(image, st.who, Operation::Read as u8, 0),
+        StepKind::Write => begins(image, st.who, u8::from(Operation::Write), st.value),
+        StepKind::Read => begins(image, st.who, u8::from(Operation::Read), 0),
         StepKind::Deliver => deliver(image, server, st.message),
         StepKind::Take => take(image, st.message),
         StepKind::Fault => fault(image, server),

@@ -1,3 +1,4 @@
+-- What the check does not find alone:
 -- What a turn says is of the step on these bytes.
 use Rattle.std.proofs.lemmas.Result.{err_from_is_err_and}
 use Rattle.archive_run.specs.Loop.{says_refused}

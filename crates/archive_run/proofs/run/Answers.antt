@@ -1,3 +1,4 @@
+-- What the check does not find alone:
 -- The first record left a fresh world, so the image is readable.
 use Rattle.std.proofs.Common.{sym, subst}
 use Rattle.mail.specs.Images.{Legible}

@@ -1,3 +1,4 @@
+-- What the check does not find alone:
 -- A turn that goes on is one step more; the last turn ends the input.
 use Rattle.std.proofs.Common.{◌≡◌, arith, subst}
 use Rattle.archive_run.specs.Loop.{Led, none, more, ended, led_on}

@@ -1,3 +1,4 @@
+-- What the check does not find alone:
 -- The steps that are counted were accepted, one after another.
 use Rattle.archive_run.specs.Loop.{Led}
 use Rattle.archive_run.proofs.steps.Given as goal

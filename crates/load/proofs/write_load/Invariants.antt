@@ -1,3 +1,4 @@
+-- What the check does not find alone:
 -- Each piece begins at the state where the one before it ended, and is appended behind it.
 use Rattle.std.proofs.Common.{◌≡◌, ◌-◌, ◌≤◌}
 use Rattle.std.specs.Io.KnownBytes.{Appends}

@@ -1,3 +1,4 @@
+-- What the check does not find alone.
 use mathlib.Core.Path.{ap, ◌∙◌}
 use Prim.Native.Nat.{ℕ}
 use mathlib.Core.List.{List}

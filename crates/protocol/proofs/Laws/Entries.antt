@@ -1,11 +1,12 @@
 -- The order of stamps, and the larger entry. Assumes nothing.
 use Rattle.std.specs.Prelude.{◌≤◌, ◌<◌, Bool, true, false, ◌&&◌, ◌||◌, ◌≡◌, refl, ◌⊎◌, List, [], ◌∷◌, ltb, eqb}
 use Rattle.std.proofs.Common.{le_refl, arith, sym, ◌∙◌, ap, inl, inr, ltb-true, ltb-false, eqb-true, eq-eqb}
-use Rattle.std.proofs.lemmas.Bool.{eqb-false}
+use Rattle.std.proofs.lemmas.Bool.{eqb-false, or_cases, and_from}
+use Rattle.std.specs.Cmp.{first_so, second_so}
 use Rattle.protocol.specs.Types.{Entry}
 use Rattle.protocol.specs.Tools.{if, all}
 use Rattle.protocol.specs.Entries.{count_of, writer_of, below, larger, largest, chosen, same}
-use Rattle.protocol.proofs.Laws.Tests.{and_left, and_right, or_cases, clash, and_both, by_test}
+use Rattle.protocol.proofs.Laws.Tests.{clash, by_test}
 
 infix 50 ◌≼◌
 -- the stamp of a is at most that of b
@@ -34,8 +35,8 @@ below_≼ a b e = go (or_cases _ _ e)
     go : (ltb (count_of a) (count_of b) ≡ true) ⊎ ((eqb (count_of a) (count_of b) && ltb (writer_of a) (writer_of b)) ≡ true) → a ≼ b
     go (inl h) = by_count (ltb-true _ _ h)
     go (inr h) =
-        let k : writer_of a < writer_of b = ltb-true _ _ (and_right (eqb (count_of a) (count_of b)) _ h) in
-        by_writer (eqb-true _ _ (and_left _ _ h)) (omega arith)
+        let k : writer_of a < writer_of b = ltb-true _ _ (second_so (eqb (count_of a) (count_of b)) _ h) in
+        by_writer (eqb-true _ _ (first_so _ _ h)) (omega arith)
 
 not_below_≼ : (a b : Entry) → below a b ≡ false → b ≼ a
 unfolding below
@@ -79,16 +80,19 @@ larger_one a b = go (below a b)
 pub same_is : (a b : Entry) → same a b ≡ true → a ≡ b
 unfolding same
 same_is a b e =
-    let c : count_of a ≡ count_of b = eqb-true _ _ (and_left _ _ e) in
-    let r = and_right (eqb (count_of a) (count_of b)) _ e in
-    let w : writer_of a ≡ writer_of b = eqb-true _ _ (and_left _ _ r) in
-    let v : a.value ≡ b.value = eqb-true _ _ (and_right (eqb (writer_of a) (writer_of b)) _ r) in
+    let c : count_of a ≡ count_of b = eqb-true _ _ (first_so _ _ e) in
+    let r = second_so (eqb (count_of a) (count_of b)) _ e in
+    let w : writer_of a ≡ writer_of b = eqb-true _ _ (first_so _ _ r) in
+    let v : a.value ≡ b.value = eqb-true _ _ (second_so (eqb (writer_of a) (writer_of b)) _ r) in
     λ i. record { stamp = record { count = record { 0 = c i }; writer = w i }; value = v i }
 
 pub is_same : (a b : Entry) → a ≡ b → same a b ≡ true
 unfolding same
 is_same a b e =
-    and_both _ _ (eq-eqb _ _ (ap count_of e)) (and_both _ _ (eq-eqb _ _ (ap writer_of e)) (eq-eqb _ _ (ap (λ (x : Entry). x.value) e)))
+    and_from _ _ (eq-eqb _ _ (ap count_of e)) (and_from _ _ (eq-eqb _ _ (ap writer_of e)) (eq-eqb _ _ (ap (λ (x : Entry). x.value) e)))
+
+pub same_refl : (a : Entry) → same a a ≡ true
+same_refl a = is_same a a refl
 
 -- entries that all agree with the first: it is the largest of them
 pub larger_same : (a b : Entry) → a ≡ b → larger a b ≡ b
@@ -102,7 +106,7 @@ pub largest_same : (e : Entry) (es : List Entry) → all (same e) es ≡ true �
 unfolding largest all
 largest_same e [] h = refl
 largest_same e (x ∷ xs) h =
-    ap (λ (y : Entry). largest y xs) (larger_same x e (sym (same_is _ _ (and_left _ _ h)))) ∙ largest_same e xs (and_right (same e x) _ h)
+    ap (λ (y : Entry). largest y xs) (larger_same x e (sym (same_is _ _ (first_so _ _ h)))) ∙ largest_same e xs (second_so (same e x) _ h)
 
 -- they all agree with the largest where they all agree with the first
 pub all_one : (e : Entry) (es : List Entry) → all (same (largest e es)) (e ∷ es) ≡ all (same e) es
@@ -110,7 +114,7 @@ unfolding all
 all_one e es = go (all (same e) es) refl
   where
     first : (same (largest e es) e && all (same (largest e es)) es) ≡ true → all (same e) es ≡ true
-    first h = rw (same_is _ _ (and_left _ _ h)) at (and_right (same (largest e es) e) _ h)
+    first h = rw (same_is _ _ (first_so _ _ h)) at (second_so (same (largest e es) e) _ h)
 
     go : (b : Bool) → all (same e) es ≡ b → (same (largest e es) e && all (same (largest e es)) es) ≡ b
     go true p = let q = largest_same e es p in rw (q, is_same e e refl) p

@@ -2,24 +2,20 @@
 use Rattle.std.specs.Prelude.{ℕ, zero, suc, ◌≤◌, true, false, ◌≡◌, refl, ◌⊎◌, length, get_or, replicate}
 use Rattle.std.proofs.Common.{arith, ap, ◌∙◌, inl, inr}
 use Rattle.std.proofs.lemmas.List.{length-replicate}
+use Rattle.std.proofs.lemmas.Bool.{cases_Bool}
 use Rattle.protocol.specs.Types.{View, Server}
 use Rattle.protocol.specs.Tools.{holds, nth}
 use Rattle.protocol.specs.Sizes.{servers, clients, views, messages}
 use Rattle.protocol.specs.Entries.{empty}
 use Rattle.protocol.specs.Clients.{is_ending}
 use Rattle.protocol.specs.Worlds.{no_view, no_server, no_client, no_message, view, server, client, message, newest, fresh_server, list_to, fresh_world}
-use Rattle.protocol.proofs.Laws.Tests.{by_bool}
+use Rattle.protocol.proofs.Laws.Lists.{length_list_to}
 
 get_d_list_to : {A : Type 0} (g : ℕ → A) (n k : ℕ) (d : A) → (get_or (list_to g n) k d ≡ g (suc k)) ⊎ (get_or (list_to g n) k d ≡ d)
 unfolding list_to
 get_d_list_to g zero k d = inr refl
 get_d_list_to g (suc n) zero d = inl refl
 get_d_list_to g (suc n) (suc k) d = get_d_list_to (λ i. g (suc i)) n k d
-
-length_list_to : {A : Type 0} (g : ℕ → A) (n : ℕ) → length (list_to g n) ≡ n
-unfolding list_to
-length_list_to g zero = refl
-length_list_to g (suc n) = ap suc (length_list_to (λ i. g (suc i)) n)
 
 -- a server of a fresh world is a member of view 1, or nobody
 pub data First (v : View) (s : ℕ) (a : Server) : Type 0 where
@@ -29,7 +25,7 @@ pub data First (v : View) (s : ℕ) (a : Server) : Type 0 where
 pub first : (v : View) (s : ℕ) → First v s (server (fresh_world v) s)
 unfolding server fresh_world nth
 first v zero = outside refl
-first v (suc k) = go (get_d_list_to (fresh_server v.members.0) servers k no_server) (by_bool (holds v.members.0 (suc k)))
+first v (suc k) = go (get_d_list_to (fresh_server v.members.0) servers k no_server) (cases_Bool (holds v.members.0 (suc k)))
   where
     go : {a : Server} → (a ≡ fresh_server v.members.0 (suc k)) ⊎ (a ≡ no_server) → (holds v.members.0 (suc k) ≡ true) ⊎ (holds v.members.0 (suc k) ≡ false) → First v (suc k) a
     go (inl e) (inl h) = member_of_lem h (e ∙ rw h refl)

@@ -1,16 +1,17 @@
 -- A step by its kind. Check 3 by its parts, and back: `fitting`, `fits`. What it lets through: `client_of_lem`, `server_of_lem` (who, by the
 -- table of fields), `source_of`, `value_of`. The one split of a step into its kinds: `by_kind`; what every kind's outcome has, every
 -- step's has. The laws of whole steps use it, and a new kind adds a line. Assumes nothing.
-use Rattle.std.specs.Prelude.{ℕ, suc, ◌≤◌, Bool, true, false, ◌&&◌, ◌≡◌, refl, eqb}
+use Rattle.std.specs.Prelude.{ℕ, suc, ◌≤◌, Bool, true, false, ◌≡◌, refl, eqb}
 use Rattle.std.proofs.Common.{arith, eqb-true}
-use Rattle.std.proofs.lemmas.Bool.{eqb-false}
+use Rattle.std.proofs.lemmas.Bool.{eqb-false, and_parts}
 use Rattle.protocol.specs.Types.{Step, Range}
 use Rattle.protocol.specs.Tools.{if, within, Result}
 use Rattle.protocol.specs.Sizes.{clients, servers, messages, last_count}
 use Rattle.protocol.specs.Clients.{WRITES, READS}
 use Rattle.protocol.specs.Worlds.{World}
 use Rattle.protocol.specs.Steps.{write_step, read_step, deliver_step, take_step, fault_step, false_step, view_step, give_up_step, restart_step, CLIENT, SERVER, VIEW, F, MESSAGE, SOURCE, VALUE, row_of, uses, view_range, threshold_range, message_range, source_range, value_range, who_used, who_range, field, restart_fits, fields_fit, After, begins, deliver, take, fault, lie, view_asked, new_view, gives_up, restarts, perform}
-use Rattle.protocol.proofs.Laws.Tests.{and_left, and_right, within_true}
+use Rattle.protocol.proofs.Laws.Tests.{within_true}
+use Rattle.protocol.specs.Servers.{WRITE, END}
 
 -- the number of a client, and of a server
 pub record IsClient (c : ℕ) : Type 0 where
@@ -32,19 +33,16 @@ pub record Fitting (st : Step) : Type 0 where
   pub value : field (uses st.kind VALUE) value_range st.value ≡ true
   pub restart : restart_fits st ≡ true
 
-both : (x y : Bool) → (x && y) ≡ true → (x ≡ true) × (y ≡ true)
-both x y e = (and_left x y e, and_right x y e)
-
 pub fitting : (st : Step) → fields_fit st ≡ true → Fitting st
 unfolding fields_fit
 fitting st e =
-    let (k, e1) = both _ _ e in
-    let (w, e2) = both _ _ e1 in
-    let (v, e3) = both _ _ e2 in
-    let (f, e4) = both _ _ e3 in
-    let (m, e5) = both _ _ e4 in
-    let (s, e6) = both _ _ e5 in
-    let (x, y) = both _ _ e6 in
+    let (k, e1) = and_parts _ _ e in
+    let (w, e2) = and_parts _ _ e1 in
+    let (v, e3) = and_parts _ _ e2 in
+    let (f, e4) = and_parts _ _ e3 in
+    let (m, e5) = and_parts _ _ e4 in
+    let (s, e6) = and_parts _ _ e5 in
+    let (x, y) = and_parts _ _ e6 in
     record { kind = k; who = w; view = v; f = f; message = m; source = s; value = x; restart = y }
 
 pub fits : (st : Step) → Fitting st → fields_fit st ≡ true
@@ -113,3 +111,7 @@ by_kind w st f P p1 p2 p3 p4 p5 p6 p7 p8 p9 =
     (λ n6. either P (eqb st.kind view_step) _ _ (λ e. p7 (eqb-true _ _ e))
     (λ n7. either P (eqb st.kind give_up_step) _ _ (λ e. p8 (eqb-true _ _ e))
     (λ n8. p9 (kind_last st f (eqb-false _ _ n1) (eqb-false _ _ n2) (eqb-false _ _ n3) (eqb-false _ _ n4) (eqb-false _ _ n5) (eqb-false _ _ n6) (eqb-false _ _ n7) (eqb-false _ _ n8))))))))))
+
+-- a request that is no END is a client's
+pub not_end : {x : ℕ} → (x ≡ END → ⊥) → x ≤ END → x ≤ WRITE
+not_end f l = omega arith

@@ -7,15 +7,16 @@ use Rattle.std.proofs.Math.Bool.{true, false}
 use Rattle.std.proofs.Math.Path.{refl}
 use Rattle.std.proofs.Common.{sym, ap, ◌∙◌, subst, ltb-true, eqb-true}
 use Rattle.std.proofs.Math.Logic.{inl, inr}
-use Rattle.std.proofs.lemmas.Bool.{eqb-false, not-true}
+use Rattle.std.proofs.lemmas.Bool.{eqb-false, not-true, and_from, or_cases, and_left, and_right, or_parts}
+use Rattle.std.specs.Cmp.{first_so, second_so}
 use Rattle.protocol.specs.Types.{Entry, Server, Message, Shown}
-use Rattle.protocol.specs.Tools.{if, within, holds, bit_of, done, guard, passed}
+use Rattle.protocol.specs.Tools.{if, within, holds, bit_of, done, guard, passed, same_done}
 use Rattle.protocol.specs.Sizes.{messages}
 use Rattle.protocol.specs.Entries.{empty, larger}
 use Rattle.protocol.specs.Servers.{READ, WRITE, END, START, ANSWER, is_request, Reply, answering, comparing, replacing, without_key, joining, gathering, read, write, end, start, serve, may_answer}
 use Rattle.protocol.specs.Worlds.{World, view, server, client, message, newest, member, present, room, with_server, send}
 use Rattle.protocol.specs.Steps.{After, moved, answer, answers, deliver, fault, source?, lie}
-use Rattle.protocol.proofs.Laws.Tests.{and_left, and_right, and_both, or_cases, by_test, clash, within_true, went}
+use Rattle.protocol.proofs.Laws.Tests.{by_test, clash, within_true, went}
 use Rattle.protocol.proofs.Laws.Bits.{holds_bit_of, holds_or, holds_none}
 use Rattle.protocol.proofs.Laws.Entries.{≼_refl, larger_left, larger_right, larger_one}
 use Rattle.protocol.proofs.Laws.Worlds.{content, sent, sent_send, message_new, server_same, server_other, length_replace}
@@ -24,9 +25,6 @@ use Rattle.protocol.proofs.Laws.Change.{Sent, stay, join, Given, Carried, writte
 use Rattle.protocol.proofs.Laws.Sound.{Mail, Sound, mail_same, sized_same, sound_send, asked_on}
 
 -- ---- forms that the steps share
-
-pub done_is : {w : World} {c : ℕ} {a : After} → done (record { world = w; completed = c }) ≡ done a → record { world = w; completed = c } ≡ a
-done_is e = cc
 
 -- a number of a kind is no other
 pub apart : {A : Type 0} (m n : ℕ) → eqb m n ≡ false → m ≡ n → A
@@ -152,7 +150,7 @@ is_done e = cc
 started : (a : Server) (m : Message) (member : Bool) (r : Reply) → m.kind ≡ START → start a m member ≡ done r → Serving a m member r
 started a m member r k e =
     let (p, e1) = passed _ _ _ _ e in
-    go a.faulty refl (and_left member _ p) (ltb-true _ _ (and_right member _ p)) e1
+    go a.faulty refl (first_so member _ p) (ltb-true _ _ (second_so member _ p)) e1
   where
     go : (f : Bool) → a.faulty ≡ f → member ≡ true → a.view.0 < m.view.0
         → if f (guard (not (holds a.keys.0 m.view.0)) 7 (done (record { server = gathering a m; answer = None }))) (done (record { server = joining a m; answer = None })) ≡ done r
@@ -191,14 +189,6 @@ pub record Lawful (w v : World) (done starter kind : ℕ) : Type 0 where
   pub sound : Sound v
   pub moved : Moved w v done starter kind
 
-false_and : (x y : Bool) → x ≡ false → (x && y) ≡ false
-false_and true y e = cc
-false_and false y e = refl
-
-and-false : (x y : Bool) → y ≡ false → (x && y) ≡ false
-and-false true y e = e
-and-false false y e = refl
-
 -- ---- what becomes of a server that serves message n of w
 
 grew_without_key : {w : World} {s : ℕ} (a : Server) → a.faulty ≡ false → Grew w s a (without_key a)
@@ -208,7 +198,7 @@ grew_without_key a f =
       view = le_refl _;
       entry = ≼_refl _;
       lost = λ t l h g. holds_none t;
-      fair = λ t g. false_and _ _ f;
+      fair = λ t g. and_left _ _ f;
       keys = λ t h. clash h (holds_none t);
       joined = stay refl;
       source = inl refl;
@@ -216,7 +206,7 @@ grew_without_key a f =
 
 grew_faulty : {w : World} {s : ℕ} (a : Server) → Grew w s a (record { view = a.view; faulty = true; keys = a.keys; entry = a.entry })
 grew_faulty a =
-    record { view = le_refl _; entry = ≼_refl _; lost = λ t l h g. h; fair = λ t g. and-false a.faulty _ g; keys = λ t h. inl h; joined = stay refl; source = inl refl }
+    record { view = le_refl _; entry = ≼_refl _; lost = λ t l h g. h; fair = λ t g. and_right a.faulty _ g; keys = λ t h. inl h; joined = stay refl; source = inl refl }
 
 module _ {w : World} {s n : ℕ} (a : Server) where
   grew_replacing : Sent w WRITE n → Grew w s a (replacing a (sent w n).entry (comparing a (sent w n).entry))
@@ -247,7 +237,7 @@ module _ {w : World} {s n : ℕ} (a : Server) where
           view = omega arith;
           entry = larger_left _ _;
           lost = λ t k h g. by_test (holds (bit_of (sent w n).view.0) t) (λ e. absurd (late t k (holds_bit_of (sent w n).view.0 t e))) (λ e. e);
-          fair = λ t g. false_and _ _ f;
+          fair = λ t g. and_left _ _ f;
           keys = λ t h. inr (given t h);
           joined = join n p refl (larger_right _ _);
           source = go (larger_one a.entry (sent w n).entry);
@@ -267,16 +257,12 @@ module _ {w : World} {s n : ℕ} (a : Server) where
           view = le_refl _;
           entry = ≼_refl _;
           lost = λ t l h g. rw f at g;
-          fair = λ t g. and-false a.faulty _ (or_left_false (holds a.keys.0 t) _ (rw (f, holds_or) at g));
+          fair = λ t g. and_right a.faulty _ (or_parts (holds a.keys.0 t) _ (rw (f, holds_or) at g)).0;
           keys = λ t h. go t (or_cases _ _ (rw holds_or at h));
           joined = stay refl;
           source = inl refl;
         }
       where
-        or_left_false : (x y : Bool) → (x || y) ≡ false → x ≡ false
-        or_left_false true y e = e
-        or_left_false false y e = refl
-
         go : (t : ℕ) → (holds a.keys.0 t ≡ true) ⊎ (holds (bit_of (sent w n).view.0) t ≡ true) → (holds a.keys.0 t ≡ true) ⊎ Given w t s
         go t (inl h) = inl h
         go t (inr h) = inr (given t h)
@@ -286,7 +272,7 @@ pub fault_lawful : {w : World} → Sound w → (s : ℕ) → IsServer s → (a :
 unfolding fault
 fault_lawful {w} h s r a e kind =
     let (p, e1) = passed _ _ _ _ e in
-    subst (λ (x : After). Lawful w x.world x.completed 0 kind) (done_is e1)
+    subst (λ (x : After). Lawful w x.world x.completed 0 kind) (same_done e1)
     (record { sound = silent_sound h r (grew_faulty (server w s)); moved = silent_moves h r (grew_faulty (server w s)) kind })
 
 -- an answer that is sent where a number is left
@@ -296,13 +282,13 @@ answered : {w : World} (h : Sound w) {s : ℕ} (r : IsServer s) {b : Server} →
 answered {w} h r g n x q k o c a e kind =
     let (p, e1) = passed _ _ _ _ e in
     let l = room_left w p in
-    subst (λ (y : After). Lawful w y.world y.completed 0 kind) (done_is e1)
+    subst (λ (y : After). Lawful w y.world y.completed 0 kind) (same_done e1)
     (record { sound = answer_sound h r g n x l q; moved = answer_moves h r g n x l q k o c kind })
 
 silent : {w : World} (h : Sound w) {s : ℕ} (r : IsServer s) {b : Server} → Grew w s (server w s) b → (a : After) → moved (with_server w s b) ≡ done a → (kind : ℕ)
     → Lawful w a.world a.completed 0 kind
 silent {w} h r g a e kind =
-    subst (λ (y : After). Lawful w y.world y.completed 0 kind) (done_is e) (record { sound = silent_sound h r g; moved = silent_moves h r g kind })
+    subst (λ (y : After). Lawful w y.world y.completed 0 kind) (same_done e) (record { sound = silent_sound h r g; moved = silent_moves h r g kind })
 
 -- "Deliver": accepted
 pub deliver_lawful : {w : World} → Sound w → (s n : ℕ) → IsServer s → (a : After) → deliver w s n ≡ done a → (kind : ℕ) → Lawful w a.world a.completed 0 kind
@@ -348,8 +334,8 @@ shows w source own e = go (eqb source 0) e
     go : (b : Bool) → (b || (present w source && eqb (message w source).kind WRITE)) ≡ true → Shows w (if b empty (message w source).entry) own
     go true e = nothing refl
     go false e =
-        let (l, k) = present_is w source (and_left _ _ e) in
-        old source (record { below = k; is = eqb-true _ _ (and_right (present w source) _ e) }) refl
+        let (l, k) = present_is w source (first_so _ _ e) in
+        old source (record { below = k; is = eqb-true _ _ (second_so (present w source) _ e) }) refl
 
 -- "False answer": accepted
 pub lie_lawful : {w : World} → Sound w → (s t n source : ℕ) (a : After) → lie w s t n source ≡ done a → (kind : ℕ) → Lawful w a.world a.completed 0 kind
@@ -361,7 +347,7 @@ lie_lawful {w} h s t n source a e kind =
     let (f, f2) = passed _ _ _ _ f1 in
     let (y, f3) = passed _ _ _ _ f2 in
     let (l, e2) = passed _ _ _ _ g.on in
-    go p k f y (room_left w l) (done_is e2)
+    go p k f y (room_left w l) (same_done e2)
   where
     m : Message
     m = answer s n (record { view = record { 0 = t }; entry = if (eqb source 0) empty (message w source).entry })
@@ -372,14 +358,14 @@ lie_lawful {w} h s t n source a e kind =
     go : present w n ≡ true → (is_request (message w n).kind && source? w source) ≡ true → (server w s).faulty ≡ true → holds (server w s).keys.0 t ≡ true → w.used < messages
         → record { world = send w m; completed = 0 } ≡ a → Lawful w a.world a.completed 0 kind
     go p k f y l e =
-        let q = asked p (and_left _ _ k) in
+        let q = asked p (first_so _ _ k) in
         subst (λ (x : After). Lawful w x.world x.completed 0 kind) e
         (record {
           sound = sound_send h m l refl (λ _. q);
           moved = record {
             change = quiet w m (post w w m h.mail l refl refl (λ i. refl)) (λ s. refl) (λ t l. refl)
                 (record {
-                  answer = λ _. record { held = y; asked = q; shows = shows w source _ (and_right (is_request (message w n).kind) _ k); honest = λ z. clash (and_both _ _ f y) z };
+                  answer = λ _. record { held = y; asked = q; shows = shows w source _ (second_so (is_request (message w n).kind) _ k); honest = λ z. clash (and_from _ _ f y) z };
                   start = apart ANSWER START refl;
                   write = apart ANSWER WRITE refl;
                 })

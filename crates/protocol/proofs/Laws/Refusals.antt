@@ -4,6 +4,8 @@
 -- done. Used by consistency/proofs/Refusals.antt. Assumes nothing.
 use Rattle.std.specs.Prelude.{ℕ, ◌≤◌, Bool, true, false, ◌&&◌, ◌||◌, ◌⊎◌, ◌≡◌, refl, List, [], ◌∷◌, length, eqb, Option, None, Some}
 use Rattle.std.proofs.Common.{arith, true≢false, inl, inr, sym, ap, ◌∙◌, eqb-true}
+use Rattle.std.specs.Cmp.{first_so, second_so}
+use Rattle.std.proofs.lemmas.Bool.{or_cases}
 use Rattle.protocol.specs.Types.{Entry, View, Server, Phase, Idle, Reading, Writing, Client, Administrator, Message, Step, Shown}
 use Rattle.protocol.specs.Tools.{if, within, Result, refused, done, guard, then, number_of}
 use Rattle.protocol.specs.Sizes.{quorum_size, write_size}
@@ -13,7 +15,7 @@ use Rattle.protocol.specs.Worlds.{World, view, client, message, newest, fresh}
 use Rattle.protocol.specs.Steps.{After, answers, taken_with, begins, deliver, closes, starts, takes, take, fault, lie, new_view, gives_up, restarts, perform, step}
 use Rattle.protocol.specs.Chains.{enough}
 use Rattle.protocol.specs.Runs.{step_bytes, Replayed, onward, replay}
-use Rattle.protocol.proofs.Laws.Tests.{and_left, and_right, or_cases, within_true}
+use Rattle.protocol.proofs.Laws.Tests.{within_true}
 
 -- n is one of the numbers ns
 abbrev pub among : ℕ → List ℕ → Bool
@@ -66,10 +68,10 @@ among_all (m ∷ ms) ns = among m ns && among_all ms ns
 
 among_more : (ms ns : List ℕ) (n : ℕ) → among_all ms ns ≡ true → among n ms ≡ true → among n ns ≡ true
 among_more [] ns n p e = absurd (true≢false (sym e))
-among_more (m ∷ ms) ns n p e = go (or_cases (eqb n m) (among n ms) e) (among_more ms ns n (and_right (among m ns) (among_all ms ns) p))
+among_more (m ∷ ms) ns n p e = go (or_cases (eqb n m) (among n ms) e) (among_more ms ns n (second_so (among m ns) (among_all ms ns) p))
   where
     go : (eqb n m ≡ true) ⊎ (among n ms ≡ true) → (among n ms ≡ true → among n ns ≡ true) → among n ns ≡ true
-    go (inl q) ih = rw (eqb-true n m q) (and_left (among m ns) (among_all ms ns) p)
+    go (inl q) ih = rw (eqb-true n m q) (first_so (among m ns) (among_all ms ns) p)
     go (inr q) ih = ih q
 
 pub refuses_more : {A : Type 0} (ms ns : List ℕ) (x : Result A) → among_all ms ns ≡ true → Refuses ms x → Refuses ns x
@@ -90,10 +92,10 @@ ranged low high (n ∷ ns) = within low high n && ranged low high ns
 pub among_ranged : (low high : ℕ) (ns : List ℕ) (n : ℕ) → ranged low high ns ≡ true → among n ns ≡ true → (low ≤ n) × (n ≤ high)
 among_ranged low high [] n r e = absurd (true≢false (sym e))
 among_ranged low high (m ∷ ns) n r e =
-    go (or_cases (eqb n m) (among n ns) e) (among_ranged low high ns n (and_right (within low high m) (ranged low high ns) r))
+    go (or_cases (eqb n m) (among n ns) e) (among_ranged low high ns n (second_so (within low high m) (ranged low high ns) r))
   where
     go : (eqb n m ≡ true) ⊎ (among n ns ≡ true) → (among n ns ≡ true → (low ≤ n) × (n ≤ high)) → (low ≤ n) × (n ≤ high)
-    go (inl q) ih = within_true low high n (rw (eqb-true n m q) (and_left (within low high m) (ranged low high ns) r))
+    go (inl q) ih = within_true low high n (rw (eqb-true n m q) (first_so (within low high m) (ranged low high ns) r))
     go (inr q) ih = ih q
 
 -- ---- the rules

@@ -2,10 +2,10 @@
 -- in one exchange), document 01's marked sizes, and the permitted read sizes of four views. Assumes nothing.
 use Rattle.std.specs.Prelude.{ℕ, zero, suc, ◌+◌, ◌*◌, ◌-◌, ◌≤◌, Bool, true, false, ◌&&◌, ◌||◌, ◌≡◌, refl, List, [], ◌∷◌, ◌++◌, map, ltb, leb, eqb}
 use Rattle.std.proofs.Common.{arith, leb-true}
+use Rattle.std.specs.Cmp.{first_so, second_so}
 use Rattle.protocol.specs.Types.{View}
 use Rattle.protocol.specs.Tools.{if, Result, refused, done, guard}
 use Rattle.protocol.specs.Sizes.{size_rule, quorum, read_of, write_of, Both, quorum_size, size, sized, read_size, write_size, one_exchange}
-use Rattle.protocol.proofs.Laws.Tests.{and_left, and_right}
 
 -- a size of document 01's list: n, f
 pub record Pair : Type 0 where
@@ -75,17 +75,17 @@ pub record Sized (n f reads writes : ℕ) : Type 0 where
 -- by cases on 0 alone
 pub two_sizes : (n f r : ℕ) → size_rule n f r ≡ true → Sized n f (read_of n f r) (write_of n f r)
 unfolding quorum
-two_sizes n f r e = go (eqb r 0) (and_right (leb (3 * f + 1) n) _ (and_right (leb 1 n) _ e))
+two_sizes n f r e = go (eqb r 0) (second_so (leb (3 * f + 1) n) _ (second_so (leb 1 n) _ e))
   where
     enough : 3 * f + 1 ≤ n
-    enough = leb-true _ _ (and_left _ _ (and_right (leb 1 n) _ e))
+    enough = leb-true _ _ (first_so _ _ (second_so (leb 1 n) _ e))
 
     go : (b : Bool) → (b || (leb (2 * f + 1) r && leb (2 * r) (n + f + 1))) ≡ true → Sized n f (if b (quorum n f) r) (if b (quorum n f) (n + f + 1 - r))
     go true p = let h = enough in record { meet = omega arith; order = omega arith; low = omega arith; high = omega arith }
     go false p =
         let h = enough in
-        let a : 2 * f + 1 ≤ r = leb-true _ _ (and_left _ _ p) in
-        let b : 2 * r ≤ n + f + 1 = leb-true _ _ (and_right (leb (2 * f + 1) r) _ p) in
+        let a : 2 * f + 1 ≤ r = leb-true _ _ (first_so _ _ p) in
+        let b : 2 * r ≤ n + f + 1 = leb-true _ _ (second_so (leb (2 * f + 1) r) _ p) in
         record { meet = omega arith; order = omega arith; low = a; high = omega arith }
 
 -- what the sizes of a view that obeys the rule promise: with `covered` all that the proofs use of them, and that f silent servers stop
@@ -100,7 +100,7 @@ pub record Sizes (v : View) : Type 0 where
 pub sizes : (v : View) → sized v ≡ true → Sizes v
 unfolding sized read_size write_size
 sizes v e =
-    let s : Sized (size v) v.f (read_size v) (write_size v) = two_sizes (size v) v.f v.r (and_right (ltb v.members.0 4294967296) _ e) in
+    let s : Sized (size v) v.f (read_size v) (write_size v) = two_sizes (size v) v.f v.r (second_so (ltb v.members.0 4294967296) _ e) in
     let m = s.meet in
     let o = s.order in
     let l = s.low in

@@ -6,6 +6,7 @@ use Rattle.std.proofs.Common.{add-one, arith, ap, ◌∙◌, inl, inr, length-se
 use Rattle.std.proofs.Math.Bool.{true}
 use Rattle.std.proofs.Math.Path.{sym}
 use Rattle.std.proofs.Math.Dec.{eqb}
+use Rattle.std.specs.Cmp.{first_so, second_so}
 use borrow.Author.Tests.{leb-true, eqb-true, eq-eqb, ne_eqb}
 use Rattle.protocol.specs.Types.{Entry, Message}
 use Rattle.protocol.specs.Tools.{if, any, all}
@@ -16,7 +17,7 @@ use Rattle.protocol.specs.Clients.{is_ending}
 use Rattle.protocol.specs.Worlds.{World, view, message, newest, with_message, send, as_sent}
 use Rattle.protocol.specs.Chains.{follow, chain, tagged, heard, enough, shown, agreed}
 use Rattle.protocol.specs.Steps.{link, taken_with}
-use Rattle.protocol.proofs.Laws.Tests.{and_left, and_right, clash, last_or, Each, none, both, any_found, within_true}
+use Rattle.protocol.proofs.Laws.Tests.{clash, last_or, Each, none, both, any_found, within_true}
 use Rattle.protocol.proofs.Laws.Entries.{Listed, head, tail, chosen_le, chosen_one, same_is}
 use Rattle.protocol.proofs.Laws.Worlds.{content, sent, message_same, message_other, sent_link, sent_send, message_send, message_new, message_as, sent_as, count_as}
 use Rattle.protocol.proofs.Laws.Change.{Votes, To, Chosen, Asked, Showed}
@@ -36,7 +37,7 @@ pub data Linked (w : World) (r n : ℕ) : Type 0 where
   nowhere : n ≡ 0 → Linked w r n
   on : Answer w r n → Linked w r n
 
-used_send : (w : World) (m : Message) → (send w m).used ≡ w.used + 1
+pub used_send : (w : World) (m : Message) → (send w m).used ≡ w.used + 1
 unfolding send
 used_send w m = refl
 
@@ -158,12 +159,13 @@ pub link_taken : (w : World) (k : ℕ) → k ≢ (message w k).request.0 → k <
 unfolding link
 link_taken w k n h = rw (message_other (with_message w k _) (message w k).request.0 _ k n, message_same w k _ h) refl
 
+pub length_with : (w : World) (k : ℕ) (m : Message) {n : ℕ} → n < length w.message_list → n < length (with_message w k m).message_list
+unfolding with_message
+length_with w k m l = simp length-set l
+
 pub link_request : (w : World) (k : ℕ) → (message w k).request.0 < length w.message_list → (message (link w k) (message w k).request.0).next.0 ≡ k
 unfolding link with_message
 link_request w k h = rw (message_same (with_message w k _) (message w k).request.0 _ (length_with w k _ h)) refl
-  where
-    length_with : (w : World) (k : ℕ) (m : Message) {n : ℕ} → n < length w.message_list → n < length (with_message w k m).message_list
-    length_with w k m l = simp length-set l
 
 pub not_answer : (k : ℕ) → is_request k ≡ true → eqb k ANSWER ≡ false
 not_answer k e = let (l, h) = within_true READ END k e in ne_eqb k ANSWER (λ q. omega arith)
@@ -298,8 +300,8 @@ shower {w} t {P} {x} (both {k} {ks = js} h hs) i = go (tagged w t k) refl i (λ 
 -- a list whose entries are all e
 all_same : {e x : Entry} {l : List Entry} → all (same e) l ≡ true → Listed x l → e ≡ x
 unfolding all
-all_same {e} a (head {y} {xs} q) = same_is e y (and_left _ _ a) ∙ q
-all_same {e} a (tail {y} {xs} i) = all_same (and_right (same e y) _ a) i
+all_same {e} a (head {y} {xs} q) = same_is e y (first_so _ _ a) ∙ q
+all_same {e} a (tail {y} {xs} i) = all_same (second_so (same e y) _ a) i
 
 -- ---- a close
 
@@ -325,12 +327,12 @@ module _ {w : World} {k r t : ℕ} (h : Taking w k r t) where
         enough = leb-true _ _ e;
         vote = λ s q.
             let f = any_found (λ j. tagged w t j && eqb (message w j).sender s) (each_both taken_each (shown_each w t (taken_with w k))) q in
-            let g = and_left (tagged w t f.at) _ f.test in
+            let g = first_so (tagged w t f.at) _ f.test in
             record {
               at = f.at;
               below = f.has.0.below;
               is = f.has.0.is;
-              who = eqb-true _ _ (and_right (tagged w t f.at) _ f.test);
+              who = eqb-true _ _ (second_so (tagged w t f.at) _ f.test);
               tag = eqb-true _ _ g;
               fact = record { request = f.has.0.request; covered = chosen_le (f.has.1 g) };
             };
@@ -345,12 +347,12 @@ module _ {w : World} {k r t : ℕ} (h : Taking w k r t) where
         enough = leb-true _ _ e;
         vote = λ s q.
             let f = any_found (λ j. tagged w t j && eqb (message w j).sender s) (each_both taken_each (shown_each w t (taken_with w k))) q in
-            let g = and_left (tagged w t f.at) _ f.test in
+            let g = first_so (tagged w t f.at) _ f.test in
             record {
               at = f.at;
               below = f.has.0.below;
               is = f.has.0.is;
-              who = eqb-true _ _ (and_right (tagged w t f.at) _ f.test);
+              who = eqb-true _ _ (second_so (tagged w t f.at) _ f.test);
               tag = eqb-true _ _ g;
               fact = record { request = f.has.0.request; shows = sym (all_same a (f.has.1 g)) };
             };

@@ -1,37 +1,16 @@
 -- Tests that keep what they tell. Assumes nothing.
-use Rattle.std.specs.Prelude.{ℕ, zero, suc, ◌≤◌, ◌<◌, Bool, true, false, not, ◌&&◌, ◌||◌, ◌≡◌, refl, ◌⊎◌, List, [], ◌∷◌, leb}
-use Rattle.std.proofs.Common.{eq-or-lt_of_le, le_refl, arith, true≢false, sym, ◌∙◌, inl, inr, leb-true, le-leb}
-use Rattle.protocol.specs.Tools.{within, bit, count_to, all_to, any, Result, refused, done, then}
+use Rattle.std.specs.Prelude.{ℕ, zero, suc, ◌≤◌, ◌<◌, Bool, true, false, not, ◌||◌, ◌≡◌, refl, ◌⊎◌, List, [], ◌∷◌, leb, ◌+◌}
+use Rattle.std.proofs.Common.{eq-or-lt_of_le, le_refl, arith, true≢false, sym, ap, ◌∙◌, inl, inr, leb-true, le-leb}
+use Rattle.std.specs.Cmp.{first_so, second_so}
+use Rattle.std.proofs.lemmas.Bool.{and_from, or_cases, or_left, or_right, false_from_ne_true}
+use Rattle.std.proofs.Math.Numerals.{add-one}
+use Rattle.protocol.specs.Tools.{within, all_to, some_to, any, Result, refused, done, then}
 
-pub and_left : (x y : Bool) → (x && y) ≡ true → x ≡ true
-and_left true y e = refl
-and_left false y e = cc
-
-pub and_right : (x y : Bool) → (x && y) ≡ true → y ≡ true
-and_right true y e = e
-and_right false y e = cc
-
-pub and_both : (x y : Bool) → x ≡ true → y ≡ true → (x && y) ≡ true
-and_both true y e f = f
-and_both false y e f = e
-
-pub or_first : (x y : Bool) → x ≡ true → (x || y) ≡ true
-or_first true y e = refl
-or_first false y e = cc
-
-pub or_second : (x y : Bool) → y ≡ true → (x || y) ≡ true
-or_second true y e = refl
-or_second false y e = e
-
-pub or_cases : (x y : Bool) → (x || y) ≡ true → (x ≡ true) ⊎ (y ≡ true)
-or_cases true y e = inl refl
-or_cases false y e = inr e
-
--- a test that passed and failed
+-- a test that passed and failed (the kit has it, and `by_test` below, in proofs of its own that std does not hand on)
 pub clash : {A : Type 0} {b : Bool} → b ≡ true → b ≡ false → A
 clash p q = absurd (true≢false (sym p ∙ q))
 
--- what a test of the code tells of the one defined: b is its answer
+-- what a test of the code tells of the one defined: b is its answer. No proof cites these four; they stand for who reads the laws.
 pub passed_test : (b c : Bool) → b ≡ c → not b ≡ false → c ≡ true
 passed_test true c p q = sym p
 passed_test false c p q = absurd (true≢false q)
@@ -46,14 +25,19 @@ is_true b c p q = sym p ∙ q
 pub is_false : (b c : Bool) → b ≡ c → b ≡ false → c ≡ false
 is_false b c p q = sym p ∙ q
 
+-- what a passed test asks of a condition that holds, and that it asks that alone
+pub implies : (a b : Bool) → (not a || b) ≡ true → a ≡ true → b ≡ true
+implies true b e h = e
+implies false b e h = clash h refl
+
+pub implied : (a b : Bool) → (a ≡ true → b ≡ true) → (not a || b) ≡ true
+implied true b f = f refl
+implied false b f = refl
+
 -- by cases on a test, with what it tells
 pub by_test : {P : Type 0} (b : Bool) → (b ≡ true → P) → (b ≡ false → P) → P
 by_test true f g = f refl
 by_test false f g = g refl
-
-pub by_bool : (b : Bool) → (b ≡ true) ⊎ (b ≡ false)
-by_bool true = inl refl
-by_bool false = inr refl
 
 -- the last of n + 1, or one before
 pub last_or : (i n : ℕ) → i ≤ suc n → (i ≡ suc n) ⊎ (i ≤ n)
@@ -64,35 +48,62 @@ last_or i n h = go (eq-or-lt_of_le h)
     go (inr l) = inr (omega arith)
 
 pub within_true : (low high n : ℕ) → within low high n ≡ true → (low ≤ n) × (n ≤ high)
-within_true low high n e = (leb-true _ _ (and_left _ _ e), leb-true _ _ (and_right (leb low n) _ e))
+within_true low high n e = (leb-true _ _ (first_so _ _ e), leb-true _ _ (second_so (leb low n) _ e))
 
 pub is_within : (low high n : ℕ) → low ≤ n → n ≤ high → within low high n ≡ true
-is_within low high n l h = and_both _ _ (le-leb _ _ l) (le-leb _ _ h)
+is_within low high n l h = and_from _ _ (le-leb _ _ l) (le-leb _ _ h)
 
 pub all_to_at : (p : ℕ → Bool) (n i : ℕ) → all_to p n ≡ true → 1 ≤ i → i ≤ n → p i ≡ true
 unfolding all_to
 all_to_at p zero i e l h = absurd (omega arith)
-all_to_at p (suc n) i e l h = go (last_or i n h) (all_to_at p n i (and_left (all_to p n) _ e) l)
+all_to_at p (suc n) i e l h = go (last_or i n h) (all_to_at p n i (first_so (all_to p n) _ e) l)
   where
     go : (i ≡ suc n) ⊎ (i ≤ n) → (i ≤ n → p i ≡ true) → p i ≡ true
-    go (inl q) ih = rw q (and_right (all_to p n) _ e)
+    go (inl q) ih = rw q (second_so (all_to p n) _ e)
     go (inr q) ih = ih q
 
 pub all_to_lem : (p : ℕ → Bool) (n : ℕ) → ((i : ℕ) → 1 ≤ i → i ≤ n → p i ≡ true) → all_to p n ≡ true
 unfolding all_to
 all_to_lem p zero f = refl
-all_to_lem p (suc n) f = and_both _ _ (all_to_lem p n (λ i l h. f i l (omega arith))) (f (suc n) (omega arith) (le_refl _))
+all_to_lem p (suc n) f = and_from _ _ (all_to_lem p n (λ i l h. f i l (omega arith))) (f (suc n) (omega arith) (le_refl _))
 
-pub bit_le : (b : Bool) → bit b ≤ 1
-bit_le true = omega arith
-bit_le false = omega arith
+pub all_start : (p : ℕ → Bool) → all_to p 0 ≡ true
+unfolding all_to
+all_start p = refl
 
-pub count_le : (p : ℕ → Bool) (n : ℕ) → count_to p n ≤ n
-unfolding count_to
-count_le p zero = omega arith
-count_le p (suc n) = omega (arith, count_le p n, bit_le (p (suc n)))
+pub all_more : (p : ℕ → Bool) (n : ℕ) → all_to p n ≡ true → p (n + 1) ≡ true → all_to p (n + 1) ≡ true
+unfolding all_to
+all_more p n a b = rw add-one (and_from _ _ a (rw add-one at b))
 
--- a member of a list of numbers that passes a test
+pub all_fails : (p : ℕ → Bool) (n k : ℕ) → 1 ≤ k → k ≤ n → p k ≡ false → all_to p n ≡ false
+all_fails p n k l m e = false_from_ne_true _ (λ a. clash (all_to_at p n k a l m) e)
+
+-- some number passes
+pub record Passing (p : ℕ → Bool) (n : ℕ) : Type 0 where
+  pub at : ℕ
+  pub low : 1 ≤ at
+  pub high : at ≤ n
+  pub test : p at ≡ true
+
+pub some_passing : (p : ℕ → Bool) (n : ℕ) → some_to p n ≡ true → Passing p n
+unfolding some_to
+some_passing p zero e = clash e refl
+some_passing p (suc n) e = go (or_cases (some_to p n) (p (suc n)) e) (some_passing p n)
+  where
+    go : (some_to p n ≡ true) ⊎ (p (suc n) ≡ true) → (some_to p n ≡ true → Passing p n) → Passing p (suc n)
+    go (inl t) ih = let s = ih t in record { at = s.at; low = s.low; high = omega (arith, s.high); test = s.test }
+    go (inr t) ih = record { at = suc n; low = omega arith; high = omega arith; test = t }
+
+pub passing_some : (p : ℕ → Bool) (n i : ℕ) → 1 ≤ i → i ≤ n → p i ≡ true → some_to p n ≡ true
+unfolding some_to
+passing_some p zero i l h e = absurd (omega arith)
+passing_some p (suc n) i l h e = go (last_or i n h) (λ m. passing_some p n i l m e)
+  where
+    go : (i ≡ suc n) ⊎ (i ≤ n) → (i ≤ n → some_to p n ≡ true) → (some_to p n || p (suc n)) ≡ true
+    go (inl q) ih = or_right (some_to p n) _ (ap p (sym q) ∙ e)
+    go (inr q) ih = or_left (some_to p n) _ (ih q)
+
+-- a member of a list of numbers that passes a test; stands for who reads the laws
 pub data Has (P : ℕ → Type 0) : List ℕ → Type 0 where
   first : {k : ℕ} {ks : List ℕ} → P k → Has P (k ∷ ks)
   after : {k : ℕ} {ks : List ℕ} → Has P ks → Has P (k ∷ ks)

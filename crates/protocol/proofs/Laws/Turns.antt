@@ -6,9 +6,10 @@ use Rattle.std.proofs.Common.{arith, ◌∙◌, inl, inr, ltb-true, eqb-true}
 use Rattle.std.proofs.Math.Bool.{true}
 use Rattle.std.proofs.Math.Path.{refl, sym, ap, subst}
 use Rattle.std.proofs.Math.ListN.{get_or-eq_default}
-use Rattle.std.proofs.lemmas.Bool.{eqb-false}
+use Rattle.std.proofs.lemmas.Bool.{eqb-false, or_cases}
+use Rattle.std.specs.Cmp.{first_so, second_so}
 use Rattle.protocol.specs.Types.{ViewNumber, MessageNumber, Entry, View, Phase, Idle, Reading, Writing, Client, Administrator, Ending, Message, Step}
-use Rattle.protocol.specs.Tools.{if, nth, Result, refused, done, guard, passed}
+use Rattle.protocol.specs.Tools.{if, nth, Result, refused, done, guard, passed, same_done}
 use Rattle.protocol.specs.Sizes.{clients, views, messages, sized, read_size, write_size}
 use Rattle.protocol.specs.Entries.{empty, chosen}
 use Rattle.protocol.specs.Servers.{READ, WRITE, END, START, ANSWER}
@@ -16,20 +17,20 @@ use Rattle.protocol.specs.Clients.{WRITES, READS, number, is_idle, request_of, b
 use Rattle.protocol.specs.Worlds.{World, no_client, view, server, client, message, newest, present, room, with_client, with_view, with_message, with_administrator, send, next_number, as_sent}
 use Rattle.protocol.specs.Chains.{enough, shown, agreed}
 use Rattle.protocol.specs.Steps.{After, moved, request, begins, link, open?, taken_with, at_once, closes, starts, takes, take, new_view, gives_up, fields_fit, write_step, read_step, deliver_step, take_step, fault_step, false_step, view_step, give_up_step, row_of, view_asked, step, emptied, planned, restarts, restart_step}
-use Rattle.protocol.proofs.Laws.Tests.{and_left, and_right, or_cases, clash, went}
+use Rattle.protocol.proofs.Laws.Tests.{clash, went}
 use Rattle.protocol.proofs.Laws.Sizes.{covered}
 use Rattle.protocol.proofs.Laws.Worlds.{content, sent, sent_link, client_same, client_other, view_same, view_other, length_replace, sent_as}
 use Rattle.protocol.proofs.Laws.Change.{Votes, To, Chosen, Started, Closed, Kept, Agreed, Acted, same, exchanged, began, wrote, ended, gave_up, none as unsent}
 use Rattle.protocol.proofs.Laws.Sound.{Sized, Sound, mail_same, mail_link, sized_same, sound_send, Taking, close_votes, close_agreed, close_chosen, link_count, mail_as}
 use Rattle.protocol.proofs.Laws.Kinds.{IsClient, client_of_lem, server_of_lem, by_kind}
-use Rattle.protocol.proofs.Laws.Moves.{done_is, apart, is_done, grew_refl, Post, post, quiet, idle_acted, room_left, present_is, Lawful, fault_lawful, deliver_lawful, lie_lawful}
+use Rattle.protocol.proofs.Laws.Moves.{apart, is_done, grew_refl, Post, post, quiet, idle_acted, room_left, present_is, Lawful, fault_lawful, deliver_lawful, lie_lawful}
 
 idle_is : (p : Phase) → is_idle p ≡ true → p ≡ Idle
 idle_is Idle e = refl
 idle_is (Reading r) e = clash e refl
 idle_is (Writing r) e = clash e refl
 
-refused_done : {A B : Type 0} {n : ℕ} {v : A} → ◌≡◌ {A = Result A} (refused n) (done v) → B
+pub refused_done : {A B : Type 0} {n : ℕ} {v : A} → ◌≡◌ {A = Result A} (refused n) (done v) → B
 refused_done e = let z : ◌≡◌ {A = ℕ} 0 1 = cc in absurd (omega arith)
 
 -- only a client has an open phase
@@ -103,7 +104,7 @@ begins_lawful {w} h {c} r kind value a e =
     let (i, f) = passed _ _ _ _ g.is in
     let (l, e1) = passed _ _ _ _ g.on in
     let q = is_done f in
-    subst (λ (x : After). Lawful w x.world x.completed c kind) (done_is e1)
+    subst (λ (x : After). Lawful w x.world x.completed c kind) (same_done e1)
     (begun_lawful h r (room_left w l) kind g.value (idle_is _ i) (ap (λ (y : Client). y.phase) q) (ap (λ (y : Client). y.kind) q)
     (ap (λ (y : Client). y.given) q))
 
@@ -114,7 +115,7 @@ gives_up_lawful {w} h {c} r a e kind =
     let g = went _ _ _ e in
     let (i, f) = passed _ _ _ _ g.is in
     let q = is_done f in
-    subst (λ (x : After). Lawful w x.world x.completed 0 kind) (done_is g.on)
+    subst (λ (x : After). Lawful w x.world x.completed 0 kind) (same_done g.on)
     (left_lawful g.value (ap (λ (y : Client). y.phase) q) (ap (λ (y : Client). y.given) q))
   where
     left_lawful : (b : Client) → b.phase ≡ Idle → b.given ≡ (client w c).given → Lawful w (with_client w c b) 0 0 kind
@@ -386,7 +387,7 @@ module _ {w : World} (h : Sound w) {k r t : ℕ} (y : Taking w k r t) where
           let (u, f1) = passed _ _ _ _ f in
           let d = is_done f1 in
           let (l, e1) = passed _ _ _ _ (rw (ap (λ (z : Close). z.complete) d) at e) in
-          subst (λ (z : After). Lawful w z.world z.completed 0 kind) (done_is e1)
+          subst (λ (z : After). Lawful w z.world z.completed 0 kind) (same_done e1)
           (wrote_lawful i x.client (room_left w l) r e' (p ∙ ap Reading (as_number o)) (ap (λ (z : Close). z.client.phase) d) (ap (λ (z : Close). z.client.kind) d)
           (ap (λ (z : Close). z.client.entry) d) (ap (λ (z : Close). z.client.given) d) (close_votes y _ en) (close_chosen y) kind)
 
@@ -400,15 +401,15 @@ module _ {w : World} (h : Sound w) {k r t : ℕ} (y : Taking w k r t) where
           exchange : (once (client w c) (at_once w t (taken_with w k))) ≡ true → x ≡ complete_with (client w c) e'
               → Lawful w a.world a.completed 0 kind
           exchange b d =
-              let once? = and_right (eqb (client w c).kind READS) _ b in
-              subst (λ (z : After). Lawful w z.world z.completed 0 kind) (done_is (rw (ap (λ (z : Close). z.complete) d) at e))
-              (exchanged_lawful i x.client r (p ∙ ap Reading (as_number o)) (eqb-true _ _ (and_left _ _ b)) (ap (λ (z : Close). z.client.phase) d) (ap (λ (z : Close). z.client.given) d)
+              let once? = second_so (eqb (client w c).kind READS) _ b in
+              subst (λ (z : After). Lawful w z.world z.completed 0 kind) (same_done (rw (ap (λ (z : Close). z.complete) d) at e))
+              (exchanged_lawful i x.client r (p ∙ ap Reading (as_number o)) (eqb-true _ _ (first_so _ _ b)) (ap (λ (z : Close). z.client.phase) d) (ap (λ (z : Close). z.client.given) d)
               (subst (Agreed w r) (sym (ap (λ (z : Close). z.client.entry) d))
               (record {
                 tag = t;
-                votes = close_agreed y _ en (and_left _ _ once?);
+                votes = close_agreed y _ en (first_so _ _ once?);
                 covers = covered (view w t)
-                    (and_right (agreed w t (taken_with w k)) _ once?);
+                    (second_so (agreed w t (taken_with w k)) _ once?);
                 chosen = close_chosen y;
                 other = ne;
               })) kind)
@@ -420,7 +421,7 @@ module _ {w : World} (h : Sound w) {k r t : ℕ} (y : Taking w k r t) where
           either false b f = writes p o en x f e
       go (Writing q) p o en x f e =
           let d = is_done f in
-          subst (λ (z : After). Lawful w z.world z.completed 0 kind) (done_is (rw (ap (λ (z : Close). z.complete) d) at e))
+          subst (λ (z : After). Lawful w z.world z.completed 0 kind) (same_done (rw (ap (λ (z : Close). z.complete) d) at e))
           (ended_lawful i x.client r (p ∙ ap Writing (as_number o)) (ap (λ (z : Close). z.client.phase) d) (ap (λ (z : Close). z.client.entry) d) (ap (λ (z : Close). z.client.given) d)
           (record { tag = t; entry = e'; votes = close_votes y _ en; chosen = close_chosen y }) kind)
 
@@ -429,7 +430,7 @@ module _ {w : World} (h : Sound w) {k r t : ℕ} (y : Taking w k r t) where
   unfolding starts sent content
   starts_lawful z o q en a e kind =
       let (l, e1) = passed _ _ _ _ e in
-      subst (λ (x : After). Lawful w x.world x.completed 0 kind) (done_is e1)
+      subst (λ (x : After). Lawful w x.world x.completed 0 kind) (same_done e1)
       (start_lawful (room_left w l) _ (ending w.administrator.ending o) z (at_newest q (close_votes y _ en)) (chosen_newest q (close_chosen y)) kind)
     where
       ending : (x : Ending) → end_of x ≡ r → is_ending x ≡ true
@@ -447,11 +448,11 @@ module _ {w : World} (h : Sound w) {k r t : ℕ} (y : Taking w k r t) where
   takes_lawful o a e kind = go (eqb (message w r).kind END) refl o e
     where
       stays : moved (link w k) ≡ done a → Lawful w a.world a.completed 0 kind
-      stays e = subst (λ (x : After). Lawful w x.world x.completed 0 kind) (done_is e) (open_lawful kind)
+      stays e = subst (λ (x : After). Lawful w x.world x.completed 0 kind) (same_done e) (open_lawful kind)
 
       ends : (message w r).kind ≡ END → end_of w.administrator.ending ≡ r → (b : Bool) → (eqb t (newest w) && enough w t (taken_with w k) (write_size (view w t))) ≡ b
           → if b (starts w k (chosen (shown w t (taken_with w k)))) (moved (link w k)) ≡ done a → Lawful w a.world a.completed 0 kind
-      ends z o true b e = starts_lawful z o (eqb-true _ _ (and_left _ _ b)) (and_right (eqb t (newest w)) _ b) a e kind
+      ends z o true b e = starts_lawful z o (eqb-true _ _ (first_so _ _ b)) (second_so (eqb t (newest w)) _ b) a e kind
       ends z o false b e = stays e
 
       closing : ((message w r).kind ≡ END → ⊥) → request_of (client w (message w r).sender).phase ≡ r → (b : Bool)
@@ -474,9 +475,9 @@ unfolding take sent content
 take_lawful {w} h k a e kind =
     let (p, e1) = passed _ _ _ _ e in
     let (o, e2) = passed _ _ _ _ e1 in
-    let (l, u) = present_is w k (and_left _ _ p) in
-    let i = eqb-true _ _ (and_right (present w k) _ p) in
-    takes_lawful h (record { answer = record { below = u; is = i; request = refl }; tag = refl; asked = h.mail.asked k u i; mail = h.mail }) (and_right (not (message w k).taken) _ o) a e2 kind
+    let (l, u) = present_is w k (first_so _ _ p) in
+    let i = eqb-true _ _ (second_so (present w k) _ p) in
+    takes_lawful h (record { answer = record { below = u; is = i; request = refl }; tag = refl; asked = h.mail.asked k u i; mail = h.mail }) (second_so (not (message w k).taken) _ o) a e2 kind
 
 -- ---- a new view
 
@@ -575,8 +576,8 @@ new_view_lawful {w} h v a e kind =
     let (p, f1) = passed _ _ _ _ g.is in
     let (z, f2) = passed _ _ _ _ f1 in
     let (l, e1) = passed _ _ _ _ g.on in
-    subst (λ (x : After). Lawful w x.world x.completed 0 kind) (done_is e1)
-    (call_lawful h v g.value (and_left _ _ z) (ltb-true _ _ (and_right (sized v) _ z)) (ap (λ (x : Administrator). x.newest) (is_done f2)) (room_left w l) kind)
+    subst (λ (x : After). Lawful w x.world x.completed 0 kind) (same_done e1)
+    (call_lawful h v g.value (first_so _ _ z) (ltb-true _ _ (second_so (sized v) _ z)) (ap (λ (x : Administrator). x.newest) (is_done f2)) (room_left w l) kind)
 
 -- ---- a restart
 
@@ -640,7 +641,7 @@ restarts_lawful {w} h v a e kind =
     let g = went _ _ _ e in
     let (p, f1) = passed _ _ _ _ g.is in
     let (z, f2) = passed _ _ _ _ f1 in
-    subst (λ (x : After). Lawful w x.world x.completed 0 kind) (done_is g.on) (rw (is_done f2) (restart_lawful h _ v z p kind))
+    subst (λ (x : After). Lawful w x.world x.completed 0 kind) (same_done g.on) (rw (is_done f2) (restart_lawful h _ v z p kind))
 
 -- ---- every step
 

@@ -1,3 +1,4 @@
+-- What the check does not find alone:
 -- `read_full` ends, since each turn leaves less to fill; what it filled is what it consumed.
 use Rattle.std.proofs.Common.{◌≡◌, ◌-◌, ◌≤◌, length, take}
 use Rattle.std.specs.Io.KnownBytes.{Consumes}

@@ -1,3 +1,4 @@
+-- What the check does not find alone:
 -- `write_all` ends, since each turn leaves less to write; what is written was appended.
 use Rattle.std.proofs.Common.{◌-◌, ◌≤◌, length, take}
 use Rattle.std.specs.Io.KnownBytes.{Appends}

@@ -1,3 +1,4 @@
+-- What the check does not find alone.
 use Rattle.std.proofs.Common.{ℕ, List, ◌/◌, ◌^◌, arith, ap, ap₂, ◌∙◌}
 use Rattle.codec.specs.Lists.{put}
 use Rattle.codec.specs.Bytes.{le32}

@@ -1,3 +1,4 @@
+-- What the check does not find alone.
 use Rattle.std.proofs.Common.{arith, sym, ◌∙◌}
 use Rattle.single.specs.Calls.{administrator_size, administrator_written}
 use Rattle.zemawulo.proofs.zw_administrator.Goals as goal

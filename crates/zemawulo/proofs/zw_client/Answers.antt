@@ -1,3 +1,4 @@
+-- What the check does not find alone.
 use Rattle.std.proofs.Common.{arith, sym, ap, ◌∙◌}
 use Rattle.protocol.specs.declared.Closing.{Closing}
 use Rattle.protocol.specs.Tools.{done}

@@ -1,3 +1,4 @@
+-- What the check does not find alone.
 use Rattle.std.proofs.Common.{arith, sym, ◌∙◌}
 use Rattle.single.specs.Calls.{server_size, server_written}
 use Rattle.zemawulo.specs.Answers.{replied_code}

@@ -1,3 +1,4 @@
+-- What the check does not find alone.
 use Rattle.std.proofs.Common.{arith, sym}
 use Rattle.shorten.proofs.Promise.{short_journal_lem}
 use Rattle.zemawulo.proofs.zw_shorten.Goals as goal

@@ -1,3 +1,4 @@
+-- What the check does not find alone.
 use Rattle.std.proofs.Common.{ℕ, ◌+◌, ◌*◌, ◌%◌, ◌^◌, ap, ap₂, ◌∙◌}
 use Rattle.std.proofs.Math.Path.{refl}
 use Rattle.zemawulo.specs.Answers.{number_or_zero, some_of_number, first_in, lent_wrong, lent_right}

@@ -1,3 +1,4 @@
+-- What the check does not find alone:
 -- A turn is its step, and leaves a readable image.
 use Rattle.std.proofs.Common.{rules}
 use Rattle.std.proofs.lemmas.Result.{err_from_is_err_and}

@@ -1,3 +1,4 @@
+-- What the check does not find alone.
 use mathlib.Core.Path.{refl}
 use native.Mathlib.Omega.{arith}
 use Rattle.codec.specs.Lists.{wrote_none, wrote}

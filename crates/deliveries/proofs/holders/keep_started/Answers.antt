@@ -1,3 +1,4 @@
+-- What the check does not find alone.
 use Rattle.std.proofs.Common.{ℕ, List, sym, ap, ◌∙◌}
 use Rattle.protocol.specs.declared.KeySet.{KeySet}
 use Rattle.protocol.specs.Sizes.{views}

@@ -1,3 +1,4 @@
+-- What the check does not find alone.
 use Rattle.std.proofs.Common.{ℕ, List, ◌≡◌, ◌+◌, ◌-◌, arith, sym, ap}
 use Rattle.codec.specs.Places.{holder_at}
 use Rattle.deliveries.specs.Holders.{raised, raised_start, raised_more, raised_low, raise_fits}

@@ -1,3 +1,4 @@
+-- What the check does not find alone.
 use Rattle.std.proofs.Common.{◌≡◌, ◌+◌, ◌-◌, ◌≤◌}
 use Rattle.protocol.specs.Sizes.{views}
 use Rattle.deliveries.specs.Holders.{raised}

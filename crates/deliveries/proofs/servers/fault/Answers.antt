@@ -1,3 +1,4 @@
+-- What the check does not find alone.
 use mathlib.Core.Path.{ap, ◌∙◌}
 use mathlib.Core.Bool.{true}
 use mathlib.Core.List.{List}

@@ -1,3 +1,4 @@
+-- What the check does not find alone.
 use Rattle.std.proofs.Common.{rules, sym, ◌∙◌}
 use Rattle.deliveries.specs.Delivers.{sent_low, source_none, source_absent, source_is}
 use Rattle.deliveries.proofs.servers.is_source.Goals as goal

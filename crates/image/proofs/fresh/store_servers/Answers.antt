@@ -1,3 +1,4 @@
+-- What the check does not find alone.
 use Rattle.std.proofs.Common.{◌≡◌, ◌+◌, ◌-◌, refl, arith}
 use Rattle.image.specs.Fresh.{seeded, seeded_next}
 use Rattle.image.proofs.fresh.store_servers.Goals as goal

@@ -1,3 +1,4 @@
+-- What the check does not find alone.
 use Rattle.std.proofs.Common.{◌≡◌, ◌-◌}
 use Rattle.image.specs.Fresh.{seeded}
 use Rattle.image.proofs.fresh.store_servers.Given as goal

@@ -1,3 +1,4 @@
+-- What the check does not find alone.
 use Rattle.std.proofs.Common.{sym, ◌∙◌, eq-eqb}
 use Rattle.image.specs.Premise.{none_held}
 use Rattle.image.proofs.premise.group_holds.Goals as goal

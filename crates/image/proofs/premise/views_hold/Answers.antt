@@ -1,3 +1,4 @@
+-- What the check does not find alone.
 use Rattle.std.proofs.Common.{rules, ◌+◌, ◌-◌, ◌*◌, ◌∙◌}
 use Rattle.protocol.specs.Tools.{all_to}
 use Rattle.codec.specs.Ranges.{all_below}

@@ -1,3 +1,4 @@
+-- What the check does not find alone.
 use Rattle.journal.specs.Replays.{going_start, going_on, going_stop, going_end}
 use Rattle.journal.proofs.replay.play.Goals as goal
 

@@ -1,3 +1,4 @@
+-- What the check does not find alone.
 use Rattle.journal.specs.Replays.{Going}
 use Rattle.journal.proofs.replay.play.Given as goal
 

@@ -1,3 +1,4 @@
+-- What the check does not find alone.
 use Rattle.protocol.specs.declared.refusals.Refusal.TheVariants.{WrongLength}
 use Rattle.journal.specs.Replays.{unbegun, not_whole, wrong_image, wrong_journal, whole_chunks}
 use Rattle.journal.proofs.replay.replay.Goals as goal

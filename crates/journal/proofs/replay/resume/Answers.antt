@@ -1,3 +1,4 @@
+-- What the check does not find alone.
 use Rattle.std.proofs.Common.{subst}
 use Rattle.protocol.specs.declared.refusals.Refusal.TheVariants.{WrongLength}
 use Rattle.image.specs.Steps.{Played}

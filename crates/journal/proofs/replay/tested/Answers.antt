@@ -1,3 +1,4 @@
+-- What the check does not find alone.
 use Rattle.std.proofs.Common.{sym, subst}
 use Rattle.world.specs.Performs.{legible}
 use Rattle.protocol.specs.declared.refusals.Refusal.TheVariants.{Unreadable}

@@ -1,3 +1,4 @@
+-- What the check does not find alone.
 use Rattle.journal.proofs.Watches.{legible_readable}
 use Rattle.journal.proofs.watch.notice.Goals as goal
 

@@ -1,3 +1,4 @@
+-- What the check does not find alone.
 use Rattle.journal.specs.Replays.{going_on}
 use Rattle.journal.proofs.Watches.{watching_start, watching_on, watching_stop, watching_end}
 use Rattle.journal.proofs.watch.observe.Goals as goal

@@ -1,3 +1,4 @@
+-- What the check does not find alone.
 use Rattle.journal.proofs.Watches.{Watching}
 use Rattle.journal.proofs.watch.observe.Given as goal
 

@@ -1,3 +1,4 @@
+-- What the check does not find alone.
 use Rattle.std.proofs.Common.{◌∙◌}
 use Rattle.protocol.specs.declared.refusals.Refusal.TheVariants.{WrongLength}
 use Rattle.journal.specs.Replays.{not_whole, wrong_image, wrong_journal}

@@ -1,3 +1,4 @@
+-- What the check does not find alone.
 use Rattle.judging.proofs.Verdict.{promised}
 use Rattle.judging.proofs.judge.judge.Goals as goal
 

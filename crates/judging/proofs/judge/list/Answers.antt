@@ -1,3 +1,4 @@
+-- What the check does not find alone.
 use Rattle.std.proofs.Common.{rules}
 use Rattle.codec.specs.Lists.{flat}
 use Rattle.judging.proofs.Walks.{list_start, list_more, list_end}

@@ -1,3 +1,4 @@
+-- What the check does not find alone.
 use Rattle.std.proofs.Common.{length}
 use Rattle.judging.proofs.Walks.{Listing}
 use Rattle.judging.proofs.judge.list.Given as goal

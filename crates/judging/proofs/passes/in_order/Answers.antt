@@ -1,3 +1,4 @@
+-- What the check does not find alone.
 use Rattle.std.proofs.Common.{rules}
 use Rattle.judging.proofs.Walks.{unanswered, untimely, pass_more, pass_end}
 use Rattle.judging.proofs.passes.in_order.Goals.{then-not-follows-via-then-not-follows, then-not-follows-via-else-not-follows+then-not-on_time}

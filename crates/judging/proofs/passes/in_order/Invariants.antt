@@ -1,3 +1,4 @@
+-- What the check does not find alone.
 use Rattle.judging.specs.Logs.{line_at}
 use Rattle.judging.proofs.Walks.{InOrder}
 use Rattle.judging.proofs.passes.in_order.Given as goal

@@ -1,3 +1,4 @@
+-- What the check does not find alone:
 -- The first i steps are written.
 use Rattle.std.proofs.Common.{◌≡◌, ◌*◌, take}
 use Rattle.protocol.specs.Runs.{step_width}

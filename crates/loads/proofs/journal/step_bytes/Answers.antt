@@ -1,3 +1,4 @@
+-- What the check does not find alone.
 use Rattle.std.proofs.Common.{arith, ◌≡◌, ℕ, ◌/◌, ◌%◌, refl}
 use Rattle.loads.specs.Load.{spelled}
 use Rattle.loads.proofs.journal.step_bytes.Goals as goal

@@ -1,3 +1,4 @@
+-- What the check does not find alone.
 use Rattle.std.proofs.lemmas.Grind.{common_steps}
 use Rattle.std.proofs.Common.{arith, ◌≡◌, ◌+◌, ◌&&◌, Bool, drop, ap, sym, ◌∙◌}
 use Rattle.protocol.specs.Tools.{all_to}

@@ -1,3 +1,4 @@
+-- What the check does not find alone.
 use Rattle.std.proofs.Common.{sym, ap, ◌∙◌}
 use Rattle.readable.specs.Beyond.{zero_bytes, first_zero}
 use Rattle.readable.proofs.beyond.first_zero.Goals as goal

@@ -1,3 +1,4 @@
+-- What the check does not find alone.
 use Rattle.std.proofs.Common.{false, true}
 use Rattle.std.proofs.lemmas.Result.{err_from_is_err_and}
 use Rattle.shorten.proofs.Ends.{lent_image, lent_whole, lent_same, lent_begins, lent_fresh, lent_wrong, not_fresh, from_fresh, passed}

@@ -1,3 +1,4 @@
+-- What the check does not find alone.
 use Rattle.std.proofs.Common.{arith, ◌∙◌}
 use Rattle.shorten.specs.Buffers.{moved_all}
 use Rattle.shorten.proofs.shorten.move_down.Goals as goal

@@ -1,3 +1,4 @@
+-- What the check does not find alone.
 use borrow.Author.Rules.{rules}
 use Rattle.shorten.specs.Buffers.{cleared}
 use Rattle.shorten.proofs.shorten.remove.Goals as goal

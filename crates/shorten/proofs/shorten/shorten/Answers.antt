@@ -1,3 +1,4 @@
+-- What the check does not find alone.
 use Rattle.shorten.proofs.Ends.{wrong_image}
 use Rattle.shorten.proofs.shorten.shorten.Goals as goal
 

@@ -1,3 +1,4 @@
+-- What the check does not find alone.
 use Rattle.takes.specs.Takes.{request_low, linked_image}
 use Rattle.takes.proofs.take.link.Goals as goal
 

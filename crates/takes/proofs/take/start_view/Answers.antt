@@ -1,3 +1,4 @@
+-- What the check does not find alone.
 use Rattle.std.proofs.lemmas.Result.{err_from_is_err_and}
 use Rattle.mail.specs.Stored.{passed_on}
 use Rattle.takes.specs.Takes.{start_full, start_goes_on, start_put}
@@ -13,5 +14,5 @@ returns-in_err-a c =
 pub returns : goal.returns
 returns c =
     let p = c.requires in
-    start_put p.0 c.args.e p.1 _ c.load_administrator.ensures _ c.advance.ensures _ c.in_ok-a.was _ c.in_ok-number.ensures c.request-start.ensures
+    start_put p.0 c.args.e p.1 _ c.load_administrator.ensures _ c.advance.ensures _ c.in_ok-a.was _ c.in_ok-number.ensures (rw c.from.ensures at c.request-start.ensures)
     c.link.ensures c.store_administrator.ensures c.send.ensures

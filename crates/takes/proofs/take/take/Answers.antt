@@ -1,3 +1,4 @@
+-- What the check does not find alone.
 use Rattle.std.proofs.Common.{true, false, sym, ap, ◌∙◌}
 use Rattle.protocol.specs.declared.Message.{Message}
 use Rattle.protocol.specs.declared.refusals.Refusal.TheVariants.{NoMessage, NotApplicable}

@@ -1,3 +1,4 @@
+-- What the check does not find alone.
 use Rattle.protocol.specs.Steps.{link}
 use Rattle.codec.specs.Images.{decode}
 use Rattle.mail.specs.Stored.{does, by}

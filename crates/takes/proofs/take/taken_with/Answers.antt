@@ -1,3 +1,4 @@
+-- What the check does not find alone.
 use Rattle.takes.specs.Takes.{request_low, head_walk}
 use Rattle.takes.specs.Gathered.{gathers_taken}
 use Rattle.takes.proofs.take.taken_with.Goals as goal

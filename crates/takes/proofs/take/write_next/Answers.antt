@@ -1,3 +1,4 @@
+-- What the check does not find alone.
 use Rattle.std.proofs.lemmas.Result.{err_from_is_err_and}
 use Rattle.mail.specs.Stored.{passed_on}
 use Rattle.takes.specs.Takes.{wrote_full, wrote_put}
@@ -9,4 +10,4 @@ returns-in_err-number c = passed_on (err_from_is_err_and _ c.from_residual.ensur
 pub returns : goal.returns
 returns c =
     let p = c.requires in
-    wrote_put p.0 c.args.c c.args.a p.1 p.2 _ c.in_ok-number.ensures c.request-write.ensures c.link.ensures c.store_client.ensures c.send.ensures
+    wrote_put p.0 c.args.c c.args.a p.1 p.2 _ c.in_ok-number.ensures (rw c.from.ensures at c.request-write.ensures) c.link.ensures c.store_client.ensures c.send.ensures

@@ -1,4 +1,7 @@
+-- What the check does not find alone.
 use native.Mathlib.Omega.{arith}
+use Rattle.std.proofs.lemmas.Bool.{eqb-false, eqb-true, not-true, not-false}
+use Rattle.std.proofs.Common.{sym, ◌∙◌}
 use Rattle.codec.specs.Images.{decode}
 use Rattle.takes.specs.Takes.{walk_low, walk_on}
 use Rattle.takes.specs.Gathered.{gathers_zero, gathers_none, gathers_other, gathers_on}
@@ -20,10 +23,10 @@ pub gather-requires : goal.gather-requires
 gather-requires t c =
     (omega arith, walk_on c.requires (omega arith) (omega arith) _ c.load_message-m.ensures)
 
-pub returns-then-m-t : goal.returns-then-m-t
-returns-then-m-t t c =
+pub returns-then-ne : goal.returns-then-ne
+returns-then-ne t c =
     let a = c.args in
-    gathers_other c.requires (omega arith) (omega arith) _ c.load_message-m.ensures a.t.0 _ a.g.bits c.if-m-t.true c.gather.ensures
+    gathers_other c.requires (omega arith) (omega arith) _ c.load_message-m.ensures a.t.0 _ a.g.bits (eqb-false _ _ (not-true _ (sym c.ne.ensures ∙ c.if-ne.true))) c.gather.ensures
 
 pub with_answer-requires : goal.with_answer-requires
 with_answer-requires t c =
@@ -37,4 +40,4 @@ pub returns : goal.returns
 returns t c =
     let a = c.args in
     gathers_on c.requires (omega (arith, c.if-left-eq0.false)) (omega (arith, c.if-n-eq0.false)) _
-    c.load_message-m.ensures a.t.0 _ a.g.bits c.if-m-t.false _ c.with_answer.ensures c.gather-2.ensures
+    c.load_message-m.ensures a.t.0 _ a.g.bits (eqb-true _ _ (not-false _ (sym c.ne.ensures ∙ c.if-ne.false))) _ c.with_answer.ensures c.gather-2.ensures

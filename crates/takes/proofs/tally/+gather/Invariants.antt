@@ -1,3 +1,4 @@
+-- What the check does not find alone.
 use Rattle.takes.proofs.tally.+gather.Given as goal
 
 abbrev pub decreases-gather : goal.decreases-gather

@@ -1,3 +1,4 @@
+-- What the check does not find alone.
 use Rattle.std.proofs.Common.{arith}
 use Rattle.takes.specs.Takes.{walk_low, walk_on}
 use Rattle.view_changes.specs.Restarts.{unlink_zero, unlink_none, unlink_on}

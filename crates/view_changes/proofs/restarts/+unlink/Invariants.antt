@@ -1,3 +1,4 @@
+-- What the check does not find alone.
 use Rattle.view_changes.proofs.restarts.+unlink.Given as goal
 
 abbrev pub decreases-unlink : goal.decreases-unlink

@@ -1,3 +1,4 @@
+-- What the check does not find alone.
 use Rattle.view_changes.specs.Restarts.{end_walk, emptied_image}
 use Rattle.view_changes.proofs.restarts.empty.Goals as goal
 

@@ -1,3 +1,4 @@
+-- What the check does not find alone.
 use Rattle.view_changes.specs.Restarts.{restarted_kept, restarted_new}
 use Rattle.view_changes.proofs.restarts.renew.Goals as goal
 

@@ -1,3 +1,4 @@
+-- What the check does not find alone.
 use Rattle.std.proofs.lemmas.Result.{err_from_is_err_and}
 use Rattle.mail.specs.Stored.{passed_on}
 use Rattle.view_changes.specs.Restarts.{restarts_no, restarts_on}

@@ -1,3 +1,4 @@
+-- What the check does not find alone.
 use Rattle.std.proofs.Common.{arith}
 use Rattle.protocol.specs.Entries.{empty_is}
 use Rattle.std.proofs.lemmas.Result.{err_from_is_err_and}
@@ -30,4 +31,4 @@ store_view-requires c =
 pub returns : goal.returns
 returns c =
     new_view_done c.requires c.args.v _ _ _ c.load_administrator-before.ensures c.load_used.ensures c.call.ensures _ c.in_ok-a.was _ c.in_ok-number.ensures
-    (empty_is c.default.ensures) c.request-end.ensures c.store_administrator.ensures c.store_view.ensures c.send.ensures
+    (empty_is c.default.ensures) (rw c.from.ensures at c.request-end.ensures) c.store_administrator.ensures c.store_view.ensures c.send.ensures

@@ -1,3 +1,4 @@
+-- What the check does not find alone.
 use Rattle.std.proofs.Common.{◌-◌, rules}
 use Rattle.codec.specs.Ranges.{all_up_to}
 use Rattle.vouch.specs.Checks.{not_before, other}

@@ -1,3 +1,4 @@
+-- What the check does not find alone.
 use Rattle.std.proofs.Common.{refl, arith, ◌∙◌}
 use Rattle.vouch.specs.Choices.{best_to}
 use Rattle.vouch.proofs.Turns.{chosen, taken, left}

@@ -1,3 +1,4 @@
+-- What the check does not find alone.
 use Rattle.std.proofs.Common.{◌≡◌, ◌-◌, Bool}
 use Rattle.protocol.specs.declared.Entry.{Entry}
 use Rattle.vouch.specs.Choices.{best_to}

@@ -1,3 +1,4 @@
+-- What the check does not find alone.
 use Rattle.std.proofs.Common.{refl, arith, ap, ◌∙◌}
 use Rattle.vouch.specs.Seen.{seen_to}
 use Rattle.vouch.proofs.Seen.{seen_showing}

@@ -1,3 +1,4 @@
+-- What the check does not find alone.
 use Rattle.std.proofs.Common.{arith, ap, ap₂, ◌∙◌, ℕ, List}
 use Rattle.std.proofs.lemmas.Result.{err_from_is_err_and}
 use Rattle.protocol.specs.declared.Message.{Message}
@@ -27,4 +28,4 @@ pub returns : goal.returns
 returns c =
     let a = c.args in let p = c.requires in
     begins_done p.0 a.c a.kind a.value p.1 p.2 _ _ _ c.load_client.ensures c.load_used.ensures c.begin.ensures _ _ _ c.in_ok-begun.was c.in_ok-number.ensures
-    (c.send.ensures ∙ ap₂ (λ (i : List ℕ) (m : Message). put_sent i c.in_ok-number.number.0 m) c.store_client.ensures (c.request-read.ensures ∙ ap (request READ a.c 0) (empty_is c.default.ensures)))
+    (c.send.ensures ∙ ap₂ (λ (i : List ℕ) (m : Message). put_sent i c.in_ok-number.number.0 m) c.store_client.ensures ((rw c.from.ensures at c.request-read.ensures) ∙ ap (request READ a.c 0) (empty_is c.default.ensures)))

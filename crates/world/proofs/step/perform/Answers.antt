@@ -1,3 +1,4 @@
+-- What the check does not find alone.
 use Rattle.std.proofs.Common.{sym, ap, ◌∙◌}
 use Rattle.std.proofs.Math.Path.{refl}
 use Rattle.codec.specs.Images.{decode}
@@ -37,10 +38,10 @@ unfolding row_of
 gives_up-requires c = let i = who_client c.args.st 8 c.requires.1 (is_kind c.args.st c.in-Ok.is c.in-GiveUp.is c.try_from.ensures) refl in (c.requires.0, i.low, i.high)
 
 pub returns-in-Write : goal.returns-in-Write
-returns-in-Write c = by (as_write (decode c.args.image.now) c.args.st (is_kind c.args.st c.in-Ok.is c.in-Write.is c.try_from.ensures)) c.begins.ensures
+returns-in-Write c = by (as_write (decode c.args.image.now) c.args.st (is_kind c.args.st c.in-Ok.is c.in-Write.is c.try_from.ensures)) (rw c.from.ensures at c.begins.ensures)
 
 pub returns-in-Read : goal.returns-in-Read
-returns-in-Read c = by (as_read (decode c.args.image.now) c.args.st (is_kind c.args.st c.in-Ok.is c.in-Read.is c.try_from.ensures)) c.begins-in-Read.ensures
+returns-in-Read c = by (as_read (decode c.args.image.now) c.args.st (is_kind c.args.st c.in-Ok.is c.in-Read.is c.try_from.ensures)) (rw c.from-in-Read.ensures at c.begins-in-Read.ensures)
 
 pub returns-in-Deliver : goal.returns-in-Deliver
 returns-in-Deliver c = by (as_deliver (decode c.args.image.now) c.args.st (is_kind c.args.st c.in-Ok.is c.in-Deliver.is c.try_from.ensures)) c.deliver.ensures

@@ -1,3 +1,4 @@
+-- What the check does not find alone.
 use Rattle.world.specs.Performs.{wrong_image, wrong_step}
 use Rattle.world.proofs.step.step.Goals as goal
 

@@ -1,3 +1,4 @@
+-- What the check does not find alone.
 use Rattle.std.proofs.Common.{sym}
 use Rattle.mail.specs.Stored.{by}
 use Rattle.world.specs.Performs.{legible, unreadable, whole_step}

@@ -1,3 +1,4 @@
+-- What the check does not find alone.
 use Rattle.readable.proofs.sent.Opened.+walk.Given as goal
 
 abbrev pub decreases-walk : goal.decreases-walk

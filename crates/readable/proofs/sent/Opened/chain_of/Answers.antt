@@ -1,3 +1,4 @@
+-- What the check does not find alone.
 use Rattle.std.proofs.Common.{sym, ◌∙◌, arith}
 use Rattle.protocol.specs.Sizes.{messages}
 use Rattle.codec.specs.Images.{decode}

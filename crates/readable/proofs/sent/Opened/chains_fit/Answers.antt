@@ -1,3 +1,4 @@
+-- What the check does not find alone.
 use Rattle.std.proofs.Common.{◌≡◌, ◌+◌, ◌-◌, arith}
 use Rattle.codec.specs.Images.{decode}
 use Rattle.readable.specs.Walks.{counted_none, counted_more, counted_all}

@@ -1,3 +1,4 @@
+-- What the check does not find alone.
 use Prim.Native.Nat.{◌+◌, ◌-◌, ◌≤◌}
 use Rattle.codec.specs.Images.{decode}
 use Rattle.readable.specs.Walks.{Counted}

@@ -1,3 +1,4 @@
+-- What the check does not find alone.
 use Rattle.protocol.specs.Worlds.{fresh_world}
 use Rattle.shorten.specs.Trials.{held_steps, held_below, step_stays, step_goes}
 use Rattle.shorten.proofs.shorten.Start.drop_step.Goals as goal

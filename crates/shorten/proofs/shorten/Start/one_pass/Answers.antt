@@ -1,3 +1,4 @@
+-- What the check does not find alone.
 use borrow.Author.Rules.{rules}
 use Rattle.shorten.specs.Trials.{sweeping_next, sweeping_end}
 use Rattle.shorten.proofs.shorten.Start.one_pass.Goals as goal

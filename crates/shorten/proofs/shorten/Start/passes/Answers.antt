@@ -1,3 +1,4 @@
+-- What the check does not find alone.
 use borrow.Author.Rules.{rules}
 use Rattle.shorten.specs.Trials.{passing_start, passing_next, passing_end}
 use Rattle.shorten.proofs.shorten.Start.passes.Goals as goal

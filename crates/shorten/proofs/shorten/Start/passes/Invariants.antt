@@ -1,3 +1,4 @@
+-- What the check does not find alone.
 use Rattle.protocol.specs.Worlds.{fresh_world}
 use Rattle.protocol.specs.Refusals.{refusal_number}
 use Rattle.shorten.specs.Journals.{stops_with}

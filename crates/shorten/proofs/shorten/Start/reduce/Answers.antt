@@ -1,3 +1,4 @@
+-- What the check does not find alone.
 use Rattle.shorten.specs.Trials.{begun_legible}
 use Rattle.shorten.proofs.Ends.{copied_held, none_left, some_left}
 use Rattle.shorten.proofs.shorten.Start.reduce.Goals as goal

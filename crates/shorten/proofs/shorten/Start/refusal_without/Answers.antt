@@ -1,3 +1,4 @@
+-- What the check does not find alone.
 use Rattle.std.proofs.Common.{rules}
 use Rattle.shorten.specs.Trials.{begun_legible, begun_played, trial_stops, trial_ends}
 use Rattle.shorten.proofs.shorten.Start.refusal_without.Goals as goal

@@ -1,3 +1,4 @@
+-- What the check does not find alone.
 use borrow.Author.Rules.{rules}
 use Rattle.shorten.specs.Lent.{started}
 use Rattle.shorten.proofs.shorten.Start.write.Goals as goal

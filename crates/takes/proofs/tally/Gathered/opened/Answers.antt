@@ -1,3 +1,4 @@
+-- What the check does not find alone.
 use Rattle.takes.specs.Gathered.{opens}
 use Rattle.takes.proofs.tally.Gathered.opened.Goals as goal
 

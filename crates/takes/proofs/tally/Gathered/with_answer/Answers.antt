@@ -1,3 +1,4 @@
+-- What the check does not find alone.
 use Rattle.takes.specs.Gathered.{gathers_with}
 use Rattle.takes.proofs.tally.Gathered.with_answer.Goals as goal
 
