@@ -2,11 +2,11 @@
 use Rattle.std.specs.Prelude.{ℕ, ◌*◌, Bool, ◌≡◌, refl, List, [], ◌∷◌, ◌++◌, length, replicate}
 use Rattle.protocol.specs.Tools.{Result, refused, done, guard, all_to, some_to}
 use Rattle.protocol.specs.Entries.{entry, same, entry_fits}
-use Rattle.codec.specs.Bytes.{le16}
+use Rattle.codec.specs.Bytes.{le16, zeros}
 use Rattle.codec.specs.Lists.{part, flat}
-use Rattle.codec.specs.Records.{entry_of, entry_bytes}
+use Rattle.codec.specs.Records.{entry_of, entry_bytes, entry_plain}
 use Rattle.judging.specs.Decision.{stamp_rank, rank, returns, returned, stands, insert, sorted_to, follows, last_write, on_time, last_begin, along, passes}
-use Rattle.judging.specs.Logs.{logged_of, line_bytes, line_at, spare, in_values, ends_later, counted, numbers_apart, stamps_apart, line_fits, apart_before, lines_fit, well_logged}
+use Rattle.judging.specs.Logs.{line_width, logged_of, line_bytes, line_at, plain, in_values, ends_later, counted, numbers_apart, stamps_apart, line_fits, apart_before, lines_fit, well_logged}
 use Rattle.judging.specs.Verdict.{decided, judged}
 
 -- the bytes of a line, with what stands in the first of its spare bytes
@@ -22,7 +22,7 @@ R begin end count writer value = line_with 0 begin end 2 count writer value
 
 -- whether a log of these lines is well formed
 formed : List (List ℕ) → Bool
-unfolding line_with W R logged_of line_bytes line_at spare in_values ends_later counted numbers_apart stamps_apart line_fits apart_before lines_fit well_logged part flat entry_of entry_bytes all_to same entry_fits
+unfolding line_with W R logged_of line_bytes line_at plain in_values ends_later counted numbers_apart stamps_apart line_fits apart_before lines_fit well_logged part flat entry_of entry_bytes entry_plain zeros all_to same entry_fits
 formed ls = well_logged (flat (λ l. l) ls)
 
 -- the judgement of it, with an order buffer as long as is right
@@ -145,7 +145,7 @@ unfolding answer
 stamp_twice = refl
 
 -- over 256 lines; a line cut short, and an order buffer of another length, before anything else
-too_many : judged (replicate (20 * 257) 0) (2 * 257) ≡ refused 14
+too_many : judged (replicate (line_width * 257) 0) (2 * 257) ≡ refused 14
 unfolding judged decided guard well_logged
 too_many = refl
 

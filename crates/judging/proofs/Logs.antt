@@ -13,7 +13,7 @@ use Rattle.protocol.proofs.Laws.Tests.{clash, within_true, all_to_at}
 use Rattle.judging.specs.declared.Logged.{Logged}
 use Rattle.judging.specs.Decision.{stamp_rank}
 use Rattle.judging.proofs.Sorted.{Sane, Fine}
-use Rattle.judging.specs.Logs.{most_lines, lines_of, logged_of, line_bytes, line_at, spare, in_values, ends_later, counted, numbers_apart, one_stamp, stamps_apart, line_fits, apart_before, lines_fit, well_logged}
+use Rattle.judging.specs.Logs.{most_lines, lines_of, logged_of, line_bytes, line_at, plain, in_values, ends_later, counted, numbers_apart, one_stamp, stamps_apart, line_fits, apart_before, lines_fit, well_logged}
 
 -- ---- what a well-formed log tells
 
@@ -29,7 +29,7 @@ line_sane b e = record { begin = low; kind = kinds; writer = writers; spans = sp
     x = logged_of b
 
     fields : (in_values x && (ends_later x && counted x)) ≡ true
-    fields = second_so (spare b 5 && spare b 13) _ e
+    fields = second_so (plain b) _ e
 
     values : in_values x ≡ true
     values = first_so _ _ fields

@@ -8,12 +8,16 @@ use Rattle.protocol.specs.Clients.{WRITES, READS}
 use Rattle.protocol.specs.Runs.{u16_at}
 use Rattle.codec.specs.Layout.{entry_width}
 use Rattle.codec.specs.Lists.{part}
-use Rattle.codec.specs.Records.{entry_of}
+use Rattle.codec.specs.Bytes.{zeros}
+use Rattle.codec.specs.Records.{entry_of, entry_plain}
 use Rattle.judging.specs.declared.Logged.{Logged}
 
 -- "begin number (u16 ...), end number (u16 ...), kind (1 write, 2 read), entry": a line is begin u16, end u16, kind u8, 3 zero, entry
+abbrev pub entry_place : ℕ
+entry_place = 8
+
 abbrev pub line_width : ℕ
-line_width = 20
+line_width = entry_place + entry_width
 
 -- "A log has at most 256 operations"
 abbrev pub most_lines : ℕ
@@ -23,7 +27,7 @@ abbrev pub lines_of : List ℕ → ℕ
 lines_of l = length l / line_width
 
 unfoldable pub logged_of : List ℕ → Logged
-logged_of b = record { begin = u16_at b 0; end = u16_at b 2; kind = get_or b 4 0; entry = entry_of (part b 8 entry_width) }
+logged_of b = record { begin = u16_at b 0; end = u16_at b 2; kind = get_or b 4 0; entry = entry_of (part b entry_place entry_width) }
 
 -- line i, the first being line 1
 unfoldable pub line_bytes : List ℕ → ℕ → List ℕ
@@ -34,9 +38,9 @@ line_at l i = logged_of (line_bytes l i)
 
 -- ---- "14, malformed"
 
--- "a field outside its values": the three spare bytes from at on
-unfoldable pub spare : List ℕ → ℕ → Bool
-spare b at = eqb (get_or b at 0) 0 && (eqb (get_or b (at + 1) 0) 0 && eqb (get_or b (at + 2) 0) 0)
+-- "a field outside its values": the spare bytes of a line, and those of its entry
+unfoldable pub plain : List ℕ → Bool
+plain b = zeros b 5 3 && entry_plain (part b entry_place entry_width)
 
 -- "a field outside its values": "begin number (u16, at least 1), end number (u16 ...), kind (1 write, 2 read), entry"
 unfoldable pub in_values : Logged → Bool
@@ -64,7 +68,7 @@ stamps_apart x y = not (eqb x.kind WRITES && (eqb y.kind WRITES && one_stamp x.e
 
 -- the clauses that ask of one line, of its bytes
 unfoldable pub line_fits : List ℕ → Bool
-line_fits b = (spare b 5 && spare b 13) && (in_values (logged_of b) && (ends_later (logged_of b) && counted (logged_of b)))
+line_fits b = plain b && (in_values (logged_of b) && (ends_later (logged_of b) && counted (logged_of b)))
 
 -- the clauses that ask of two lines: line i beside each line before it
 unfoldable pub apart_before : List ℕ → ℕ → Bool

@@ -7,8 +7,8 @@ ghost use Rattle.judging.specs.Logs.{in_values, ends_later, counted, numbers_apa
 
 use super::Logged;
 use super::log::{ENTRY_AT, LOG_LINE, LOG_LINES, SPARE, SPARE_AT, line, line_bytes, read_logged};
-use codec::bytes::are_zero;
-use codec::layout::{ENTRY_SPARE, ENTRY_SPARE_AT};
+use codec::bytes::{are_zero, array_at};
+use codec::records::entry_plain;
 use protocol::Operation;
 use values::entries::entry_fits;
 
@@ -53,13 +53,13 @@ fn stamps_apart(x: Logged, y: Logged) -> bool
 }
 
 // The clauses that ask of one line.
-#[tactic(auto, unfolding(crate::specs::Logs::line_fits, crate::specs::Logs::spare, codec::specs::Bytes::zeros))]
+#[tactic(auto, unfolding(crate::specs::Logs::line_fits, crate::specs::Logs::plain))]
 fn line_fits(b: &[u8; LOG_LINE]) -> bool
     ensures { result ≡ line_fits b.now }
 {
     let x = read_logged(b);
     are_zero(b, SPARE_AT, SPARE)
-        && are_zero(b, ENTRY_AT + ENTRY_SPARE_AT, ENTRY_SPARE)
+        && entry_plain(array_at(b, ENTRY_AT))
         && in_values(x)
         && ends_later(x)
         && counted(x)

@@ -5,10 +5,11 @@ use Rattle.protocol.specs.Tools.{count_to, all_to, Result, refused, done, guard,
 use Rattle.protocol.specs.Entries.{entry, below, same, entry_fits}
 use Rattle.codec.specs.Layout.{entry_width}
 use Rattle.codec.specs.Lists.{part}
-use Rattle.codec.specs.Records.{entry_of, entry_bytes}
+use Rattle.codec.specs.Bytes.{zeros}
+use Rattle.codec.specs.Records.{entry_of, entry_bytes, entry_plain}
 use Rattle.vouch.specs.Answers.{answer_bytes, answerer, entry_shown, shows, showing}
 use Rattle.vouch.specs.Choices.{outranks, best_to}
-use Rattle.vouch.specs.Checks.{three_clear, values_fit, not_before, answer_fits, list_fits, vouch_on, threshold_on}
+use Rattle.vouch.specs.Checks.{values_fit, not_before, answer_fits, list_fits, vouch_on, threshold_on}
 
 record Answer : Type 0 where
   server : ℕ
@@ -66,7 +67,7 @@ nothing = 1 says entry 0 0 0 ∷ 2 says entry 0 0 0 ∷ 3 says older ∷ 4 says 
 
 first_choice_lem : (first 5 1 by_one ∷ first 5 1 by_two ∷ first 5 1 tie ∷ first 5 1 scattered ∷ first 5 1 nothing ∷ [])
     ≡ (done write ∷ done invented ∷ done (entry 3 1 600) ∷ refused 16 ∷ done (entry 0 0 0) ∷ [])
-unfolding vouch_on list_fits answer_fits values_fit three_clear not_before guard all_to count_to answerer entry_shown
+unfolding vouch_on list_fits answer_fits values_fit entry_plain zeros not_before guard all_to count_to answerer entry_shown
     some_to shows showing outranks best_to below same entry_fits part entry_of entry_bytes
 first_choice_lem = refl
 
@@ -80,7 +81,7 @@ level = 1 says write ∷ 2 says write ∷ 3 says entry 3 1 800 ∷ 4 says entry 
 
 second_choice_lem : (first 5 1 outrun ∷ second 5 1 1 outrun ∷ second 5 1 1 level ∷ second 5 1 1 by_one ∷ second 5 0 1 by_one ∷ [])
     ≡ (done older ∷ refused 16 ∷ done write ∷ done write ∷ done write ∷ [])
-unfolding vouch_on threshold_on list_fits answer_fits values_fit three_clear not_before guard all_to count_to answerer entry_shown
+unfolding vouch_on threshold_on list_fits answer_fits values_fit entry_plain zeros not_before guard all_to count_to answerer entry_shown
     some_to shows showing outranks best_to below same entry_fits part entry_of entry_bytes
 second_choice_lem = refl
 
@@ -102,13 +103,13 @@ refusals : (first 5 1 (5 says entry 1 17 1 ∷ by_one)
     ∷ second 5 1 2 by_one
     ∷ [])
     ≡ replicate 9 (refused 14)
-unfolding vouch_on threshold_on list_fits answer_fits values_fit three_clear not_before guard all_to count_to answerer entry_shown
+unfolding vouch_on threshold_on list_fits answer_fits values_fit entry_plain zeros not_before guard all_to count_to answerer entry_shown
     some_to shows showing outranks best_to below same entry_fits part entry_of entry_bytes
 refusals = refl
 
 -- beside them: all that is asked is there
 accepted : (first 5 1 (5 says entry 1 16 1 ∷ by_one) ∷ first 32 0 (everyone 17) ∷ first 5 1 (everyone 4) ∷ second 5 1 1 by_one ∷ []) ≡ replicate 4 (done write)
-unfolding vouch_on threshold_on list_fits answer_fits values_fit three_clear not_before guard all_to count_to answerer entry_shown
+unfolding vouch_on threshold_on list_fits answer_fits values_fit entry_plain zeros not_before guard all_to count_to answerer entry_shown
     some_to shows showing outranks best_to below same entry_fits part entry_of entry_bytes
 accepted = refl
 
@@ -118,6 +119,6 @@ lengths : (vouch_on (list by_one ++ (5 ∷ 1 ∷ 0 ∷ 0 ∷ entry_bytes write))
     ∷ vouch_on (list by_one) 5 1 (0 ∷ room)
     ∷ [])
     ≡ (refused 14 ∷ refused 1 ∷ refused 1 ∷ [])
-unfolding vouch_on list_fits answer_fits values_fit three_clear not_before guard all_to count_to answerer entry_shown
+unfolding vouch_on list_fits answer_fits values_fit entry_plain zeros not_before guard all_to count_to answerer entry_shown
     some_to shows showing outranks best_to below same entry_fits part entry_of entry_bytes
 lengths = refl

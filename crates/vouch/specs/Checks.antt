@@ -6,19 +6,16 @@ use Rattle.protocol.specs.Tools.{within, all_to, Result, refused, done, guard, n
 use Rattle.protocol.specs.Sizes.{servers}
 use Rattle.protocol.specs.Entries.{entry_fits}
 use Rattle.codec.specs.Layout.{entry_width}
-use Rattle.codec.specs.Records.{entry_bytes}
-use Rattle.codec.specs.Bytes.{clear}
+use Rattle.codec.specs.Lists.{part}
+use Rattle.codec.specs.Records.{entry_bytes, entry_plain}
+use Rattle.codec.specs.Bytes.{zeros}
 use Rattle.vouch.specs.Answers.{shown_at, answer_width, answer_count, answer_place, answerer, entry_shown}
 use Rattle.vouch.specs.Choices.{first_choice, second_choice}
-
--- three bytes from at on are zero
-unfoldable pub three_clear : List ℕ → ℕ → Bool
-three_clear l at = clear l at && (clear l (at + 1) && clear l (at + 2))
 
 -- not "an entry's field outside its values": of answer number k; its spare bytes are zero
 unfoldable pub values_fit : List ℕ → ℕ → Bool
 values_fit l k =
-    three_clear l (answer_place k + 1) && (three_clear l (answer_place k + shown_at + 5) && entry_fits (entry_shown l k))
+    zeros l (answer_place k + 1) 3 && (entry_plain (part l (answer_place k + shown_at) entry_width) && entry_fits (entry_shown l k))
 
 -- not "a server twice": every answer before number k is of another server
 abbrev pub other : List ℕ → ℕ → ℕ → Bool

@@ -6,20 +6,20 @@ ghost use Rattle.vouch.specs.Answers.{answer_count};
 ghost use Rattle.vouch.specs.Checks.{values_fit, not_before, numbered, answer_fits, answers_fit, sizes_fit, largest_fits, list_fits};
 
 use super::answers::{ANSWER, SHOWN_AT, SPARE, SPARE_AT, answerer, count, entry_shown};
-use codec::bytes::are_zero;
-use codec::layout::{ENTRY_SPARE, ENTRY_SPARE_AT};
+use codec::bytes::{are_zero, array_at};
+use codec::records::entry_plain;
 use protocol::limits::SERVERS;
 use values::entries::entry_fits;
 
 // The entry of answer number k has its values, and the spare bytes are zero.
-#[tactic(auto, unfolding(crate::specs::Checks::values_fit, crate::specs::Checks::three_clear, codec::specs::Bytes::zeros))]
+#[tactic(auto, unfolding(crate::specs::Checks::values_fit))]
 fn values_fit(answers: &[u8], k: usize) -> bool
     requires { (1 ≤ k) × (k ≤ answer_count answers.now) }
     ensures { result ≡ values_fit answers.now k }
 {
     let at = ANSWER * (k - 1);
     are_zero(answers, at + SPARE_AT, SPARE)
-        && are_zero(answers, at + SHOWN_AT + ENTRY_SPARE_AT, ENTRY_SPARE)
+        && entry_plain(array_at(answers, at + SHOWN_AT))
         && entry_fits(entry_shown(answers, k))
 }
 
