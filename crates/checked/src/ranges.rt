@@ -23,6 +23,7 @@ pub fn server_in_range(a: Server) -> bool
 
 // A message of kind 1 to 5: its view is at most 32, its next at most 1,023, and the request of an answer is a message's number.
 #[tactic(auto, unfolding(crate::specs::Ranges::message_in_range))]
+#[inline(always)]
 pub fn message_in_range(m: Message) -> bool
     ensures { result ≡ message_in_range m }
 {

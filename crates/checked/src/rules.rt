@@ -18,6 +18,7 @@ use values::entries;
 
 // A message reaches a server: 3, 5, 6, 7.
 #[tactic(auto, using(crate::specs::Ranges::message_view, server_rules::specs::Servers::serve_in_lem), unfolding(crate::specs::Rules::serve_rule, protocol::specs::Tools::guard))]
+#[inline(always)]
 pub fn serve_rule(a: Server, m: Message, member: bool) -> Result<Reply, Refusal>
     ensures { outcome result ≡ serve_rule a m member }
 {

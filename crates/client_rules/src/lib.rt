@@ -6,6 +6,7 @@ ghost use Rattle.protocol.specs.Refusals.{outcome, outcome_by};
 ghost use Rattle.protocol.specs.Clients.{begin, give_up, close_size, count_left, write_next, complete_with, once, close, closing};
 ghost use Rattle.client_rules.specs.Counts.{count_next};
 
+use protocol::kinds::NONE;
 use protocol::{
     Client, Closing, Entry, MessageNumber, Operation, Phase, Refusal, StampCount, View,
 };
@@ -49,7 +50,7 @@ pub fn give_up(c: Client) -> Result<Client, Refusal>
     }
     Ok(Client {
         phase: Phase::Idle,
-        kind: 0, // none yet
+        kind: NONE,
         entry: Entry::default(),
         ..c
     })

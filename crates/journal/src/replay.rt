@@ -1,17 +1,30 @@
 // Replay: the image is tested once, then each step touches only what it changes.
 // That the image is readable is asked, not held by a struct: tried, each contract then also had to say that the image that comes
 // back is the one lent.
-ghost use Rattle.protocol.specs.Runs.{replay as replay_of};
+ghost use Rattle.std.specs.Prelude.{◌≤◌, length, take};
+ghost use Rattle.protocol.specs.Steps.{step as step_of};
+ghost use Rattle.protocol.specs.Runs.{step_width, step_of as step_in, replay as replay_of};
 ghost use Rattle.codec.specs.Images.{decode};
 ghost use Rattle.image.specs.Steps.{played, replay_on, resume_on};
-ghost use Rattle.mail.specs.Images.{Legible};
+ghost use Rattle.mail.specs.Images.{Legible, Does};
 ghost use Rattle.journal.specs.Replays.{Plays, replay_steps};
 
 use super::Replayed;
+use codec::bytes::array_at;
 use codec::layout::{Image, STEP};
+use mail::Stepped;
 use protocol::Refusal;
 use readable::readable::scanned;
 use world::step::advance;
+
+// The first step of a journal's part, for a caller that goes along a journal by itself.
+#[tactic(auto, unfolding(codec::specs::Lists::part))]
+pub fn first(image: &mut Image, rest: &[u8]) -> Stepped
+    requires { Legible image.old × (step_width ≤ length rest.now) }
+    ensures { Does result image.old image.new (step_of (decode image.old) (step_in (take step_width rest.now))) }
+{
+    advance(image, array_at(rest, 0))
+}
 
 // "It stops at the first refused step": on a readable image.
 pub fn play(image: &mut Image, journal: &[[u8; STEP]]) -> Replayed

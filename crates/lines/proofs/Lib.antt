@@ -1,2 +1,2 @@
 pub mod Decimal
-mod Digits
+pub mod Digits

@@ -43,7 +43,10 @@ impl TryFrom<u8> for MessageKind {
     }
 }
 
-// What a client does: "1 write, 2 read". 0 is none yet.
+// The kind of a client's record that did nothing: "0 none yet".
+pub const NONE: u8 = 0;
+
+// What a client does: "1 write, 2 read". `NONE` is no operation.
 #[derive(Clone, Copy, Debug, PartialEq, Eq)]
 pub enum Operation {
     Write = 1,

@@ -106,6 +106,7 @@ fn admits_start(a: Server, m: Message, member: bool) -> Result<(), Refusal>
 
 // Whether READ, WRITE, or any other kind as END is served: 6, the server is faulty; 7.
 #[tactic(auto, unfolding(protocol::specs::Tools::guard))]
+#[inline(always)]
 fn admits_request(a: Server, m: Message) -> Result<(), Refusal>
     ensures { code result ≡ number_of (requested a m) }
 {
@@ -122,6 +123,7 @@ fn admits_request(a: Server, m: Message) -> Result<(), Refusal>
 // Whether the server's rule serves a message, or why not; member says whether it is in the server set of the message's view.
 // 3, a view over 32; 5, an answer or no message; 6, the server is faulty and the kind is 1 to 3; 7, the rule does not apply.
 #[tactic(auto, unfolding(crate::specs::Servers::serve_in, protocol::specs::Servers::serve, protocol::specs::Tools::guard))]
+#[inline(always)]
 pub fn admits(a: Server, m: Message, member: bool) -> Result<(), Refusal>
     ensures { code result ≡ number_of (serve_in a m member) }
 {
@@ -137,6 +139,7 @@ pub fn admits(a: Server, m: Message, member: bool) -> Result<(), Refusal>
 
 // START, served: a faulty server gathers the key, a correct one joins the view; a view over 32 changes nothing.
 #[tactic(auto, unfolding(crate::specs::Servers::entering))]
+#[inline(always)]
 pub fn entering(a: Server, m: Message) -> Server
     ensures { result ≡ entering a m }
 {
@@ -151,6 +154,7 @@ pub fn entering(a: Server, m: Message) -> Server
 
 // READ, WRITE, or any other kind as END, served: the server's record after it, and its answer.
 #[tactic(auto, unfolding(crate::specs::Servers::replying))]
+#[inline(always)]
 pub fn replying(a: Server, m: Message) -> Reply
     ensures { result ≡ replying a m }
 {

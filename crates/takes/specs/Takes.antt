@@ -304,7 +304,7 @@ module _ (w : World) (k c : ℕ) (e : Entry) (one : Bool) where
   close_writes a p = rw p
 
 module _ (w : World) (k c : ℕ) (a : Client) where
-  wrote_done : w.used < messages → wrote w k c a ≡ done (record { world = wrote_world w k c a; completed = 0 })
+  pub wrote_done : w.used < messages → wrote w k c a ≡ done (record { world = wrote_world w k c a; completed = 0 })
   unfolding wrote guard
   wrote_done h = rw (room_some w h)
 
@@ -342,7 +342,7 @@ module _ (w : World) (k : ℕ) (e : Entry) where
   unfolding starts guard
   start_none h = rw (room_none w h)
 
-  start_done : w.used < messages → starts w k e ≡ done (record { world = started_world w k e; completed = 0 })
+  pub start_done : w.used < messages → starts w k e ≡ done (record { world = started_world w k e; completed = 0 })
   unfolding starts guard started_world
   start_done h = rw (room_some w h)
 

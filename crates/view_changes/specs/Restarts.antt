@@ -101,7 +101,7 @@ module _ {l : List ℕ} {r : ℕ} (h : Emptying l r) where
 -- ---- the step
 
 module _ (w : World) (v : View) where
-  restart_refused : (n : ℕ) → restart w.administrator v ≡ refused n → restarts w v ≡ refused n
+  pub restart_refused : (n : ℕ) → restart w.administrator v ≡ refused n → restarts w v ≡ refused n
   unfolding restarts
   restart_refused n e = rw e
 
@@ -133,7 +133,7 @@ pub record Restarted (l : List ℕ) (v : View) (a : Administrator) (r : ℕ) : T
   pub room : newest (decode l) < views
 
 -- b is the record that was read
-restart_known : {l : List ℕ} → Legible l → (v : View) (b : Administrator) (x : Result Administrator) → b ≡ administrator_at l → x ≡ restart b v
+pub restart_known : {l : List ℕ} → Legible l → (v : View) (b : Administrator) (x : Result Administrator) → b ≡ administrator_at l → x ≡ restart b v
     → x ≡ restart (decode l).administrator v
 restart_known {l} h v b x p r = r ∙ ap (λ (y : Administrator). restart y v) (p ∙ administrator_is h)
 

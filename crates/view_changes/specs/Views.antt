@@ -28,21 +28,21 @@ unfoldable pub called_world : World → View → Administrator → World
 called_world w v a = send (with_view (with_administrator w a) (newest w + 1) v) (request END 0 (newest w) empty)
 
 module _ (w : World) (v : View) where
-  call_refused : (n : ℕ) → call w.administrator v (next_number w) ≡ refused n → new_view w v ≡ refused n
+  pub call_refused : (n : ℕ) → call w.administrator v (next_number w) ≡ refused n → new_view w v ≡ refused n
   unfolding new_view
   call_refused n e = rw e
 
-  call_full : (a : Administrator) → call w.administrator v (next_number w) ≡ done a → messages ≤ w.used → new_view w v ≡ refused 10
+  pub call_full : (a : Administrator) → call w.administrator v (next_number w) ≡ done a → messages ≤ w.used → new_view w v ≡ refused 10
   unfolding new_view guard
   call_full a e h = rw (e, room_none w h)
 
-  call_done : (a : Administrator) → call w.administrator v (next_number w) ≡ done a → w.used < messages
+  pub call_done : (a : Administrator) → call w.administrator v (next_number w) ≡ done a → w.used < messages
       → new_view w v ≡ done (record { world = called_world w v a; completed = 0 })
   unfolding new_view guard called_world
   call_done a e h = rw (e, room_some w h)
 
   -- "8, size rule broken or newest is 32"
-  call_low : (a : Administrator) → call w.administrator v (next_number w) ≡ done a → newest w < views
+  pub call_low : (a : Administrator) → call w.administrator v (next_number w) ≡ done a → newest w < views
   unfolding call
   call_low a e =
       let (p, e1) = passed _ _ _ _ e in

@@ -30,7 +30,7 @@ fn not_before(answers: &[u8], k: usize) -> bool
     ensures { result ≡ not_before answers.now k }
 {
     let s = answerer(answers, k);
-    (1..=k - 1).all(|j| answerer(answers, j) != s)
+    (1..k).all(|j| answerer(answers, j) != s)
 }
 
 // The server of answer number k is one of 1 to n.
@@ -52,7 +52,7 @@ fn answer_fits(answers: &[u8], n: u32, k: usize) -> bool
 fn answers_fit(answers: &[u8], n: u32) -> bool
     ensures { result ≡ answers_fit answers.now n }
 {
-    (1..=count(answers)).all(|k| answer_fits(answers, n, k))
+    (1..count(answers) + 1).all(|k| answer_fits(answers, n, k))
 }
 
 // "n over 32 or under 4b+1", with room for 4b+1.

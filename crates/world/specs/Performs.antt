@@ -37,7 +37,7 @@ unfolding fields_fit
 is_named st {o} {u} f p e = let (a, b) = within_true write_step restart_step st.kind (first_so _ _ f) in nameless st.kind u a b (sym p ∙ e)
 
 module _ (w : World) (st : Step) where
-  kind_is : (k n : ℕ) → st.kind ≡ k → eqb k n ≡ eqb st.kind n
+  pub kind_is : (k n : ℕ) → st.kind ≡ k → eqb k n ≡ eqb st.kind n
   kind_is k n e = ap (λ (x : ℕ). eqb x n) (sym e)
 
   pub as_write : st.kind ≡ 1 → perform w st ≡ begins w st.who WRITES st.value

@@ -1,12 +1,14 @@
 -- What the check does not find alone.
-use Rattle.std.proofs.Common.{◌-◌, rules}
-use Rattle.codec.specs.Ranges.{all_up_to}
+use Rattle.std.proofs.Common.{◌-◌, ◌∙◌, rules, refl}
+use Rattle.std.proofs.lemmas.Iterator.{YieldsList-from_range}
+use Rattle.std.proofs.lemmas.Iterator.Search.{all_from_yields_List}
+use Rattle.codec.specs.Ranges.{all_range}
 use Rattle.vouch.specs.Checks.{not_before, other}
 use Rattle.vouch.proofs.checks.not_before.Goals as goal
 
 pub returns : goal.returns
 unfolding not_before
 returns c =
-    let e = c.new.ensures in
-    all_up_to (other c.args.answers.now c.args.k) (c.args.k - 1) _ _ _ (record { start = e.start; end = e.end; exhausted = e.exhausted }) c.all.ensures.ran
+    all_from_yields_List (other c.args.answers.now c.args.k) _ _ _ c.all.ensures.ran (YieldsList-from_range 1 c.args.k (c.args.k - 1) refl refl)
     (λ x b q k. search rules)
+    ∙ all_range _ _
