@@ -36,6 +36,7 @@ length_digits (suc most) n = go (ltb n 10) (length_digits most (n / 10))
     go true h = omega arith
     go false h = simp length-append (omega arith)
 
+-- No proof cites it; it stands for who reads the definitions.
 pub length_number : (n then : ℕ) → length (number_then n then) ≤ 21
 unfolding number_then
 length_number n then = simp length-append (omega (arith, length_digits most_digits n))
