@@ -47,7 +47,9 @@ fn acknowledging(a: Server) -> Reply
     }
 }
 
-// WRITE, in the sequence of document 000: compare the held stamp, replace, acknowledge.
+// WRITE, in the sequence of document 000: compare the held stamp, replace, acknowledge. Inlined, as what calls it up to the step and
+// the exports is: called, its records go through memory, and a server's rule takes twice as long.
+#[inline(always)]
 fn write(a: Server, e: Entry) -> Reply
     ensures { result ≡ write a e }
 {
@@ -69,6 +71,7 @@ pub fn without_key(a: Server) -> Server
 
 // It takes the view of a START and its key, drops any older key, and keeps the larger stamp.
 #[tactic(auto, using(values::specs::Bits::bit_in_lem), unfolding(protocol::specs::Servers::joining))]
+#[inline(always)]
 fn joining(a: Server, m: Message) -> Server
     requires { m.view.0 ≤ 32 }
     ensures { result ≡ joining a m }
